@@ -1,0 +1,3 @@
+pub mod HostEnds
+pub mod Parts
+pub mod Scripts

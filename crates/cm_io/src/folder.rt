@@ -1,0 +1,60 @@
+ghost use Rattle.std.specs.Prelude.{◌≡◌, ℕ, ◌≤◌, Option, Some, None, IfSome};
+ghost use Rattle.cm_io.specs.Count.{Rose};
+ghost use Rattle.cm_io.specs.Files.{Files, file_at, first_bytes, KeepsOthers};
+ghost use Rattle.cm_io.specs.Folder.{IfRead, OnAbsent, OnReadFailed, OnWritten, OnWriteFailed, OnWriteNoMemory};
+
+use cm_base::Bytes;
+use std::alloc::Global;
+
+/// What a read of a file gives.
+#[derive(Debug, Drop)]
+pub enum Read {
+    /// The first bytes of the file, as many as were asked for, or all where it has no more.
+    Bytes(Bytes),
+    /// There is no file of that name.
+    Absent,
+    /// The file couldn't be read.
+    Failed,
+    NoMemory,
+}
+
+/// What a write of a file gives.
+#[derive(Clone, Copy, Debug, PartialEq, Eq)]
+pub enum Wrote {
+    Ok,
+    /// The file couldn't be written. It may now hold anything or be absent.
+    Failed,
+    NoMemory,
+}
+
+/// Files by their names. A folder in memory tells what it holds. One on a disk tells nothing, and its
+/// two counts are the only evidence that a call failed or found no file.
+pub trait Folder {
+    /// What the folder tells of its files.
+    ghost holds: { Self → Option Files };
+
+    /// How many calls failed.
+    ghost faults: { Self → ℕ };
+
+    /// How many reads found no file.
+    ghost absences: { Self → ℕ };
+
+    /// The first `most` bytes of a file, or all where it has no more.
+    fn read(&mut self, alloc: Global, name: &str, most: u64) -> Read
+        ensures same_files { holds self.new ≡ holds self.old }
+        ensures faults_stay { faults self.old ≤ faults self.new }
+        ensures absences_stay { absences self.old ≤ absences self.new }
+        ensures bytes { IfRead result (λ bytes. IfSome (holds self.old) (λ files. first_bytes most (file_at files name.now) ≡ Some bytes)) }
+        ensures absent_counted { OnAbsent result (Rose (absences self.old) (absences self.new)) }
+        ensures absent_held_not { OnAbsent result (IfSome (holds self.old) (λ files. file_at files name.now ≡ None)) }
+        ensures failed_counted { OnReadFailed result (Rose (faults self.old) (faults self.new)) };
+
+    /// Makes `bytes` the whole file of that name.
+    fn write(&mut self, alloc: Global, name: &str, bytes: &[u8]) -> Wrote
+        ensures others { KeepsOthers (holds self.old) (holds self.new) name.now }
+        ensures faults_stay { faults self.old ≤ faults self.new }
+        ensures absences_stay { absences self.old ≤ absences self.new }
+        ensures written { OnWritten result (IfSome (holds self.new) (λ files. file_at files name.now ≡ Some bytes.now)) }
+        ensures failed_counted { OnWriteFailed result (Rose (faults self.old) (faults self.new)) }
+        ensures no_memory { OnWriteNoMemory result (holds self.new ≡ holds self.old) };
+}

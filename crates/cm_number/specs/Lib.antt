@@ -1,0 +1,4 @@
+pub mod Conversion
+pub mod Division
+pub mod Shift
+pub mod Bitwise

@@ -1,0 +1,21 @@
+//! Modules and instructions of WebAssembly 1.0 in the integer subset of docs/MODULE.md, as plain types, and
+//! in `specs/` the four definitions that the rest of the compiler rests on: which bytes spell a module
+//! (`Spelled`), when a module is valid (`Valid`), how instructions reduce (`Reduce`) and what a host's run
+//! of a module is (`HostRun`). The writer, the reader, the validator, the runner and the headline cite them.
+#![tactic(auto)]
+
+mod failure;
+mod instr;
+mod interface;
+mod module;
+mod op;
+
+pub use failure::{ModuleFail, ModuleRefused, ModuleRule};
+pub use instr::{BlockType, Code, Instr, MemArg};
+pub use interface::Interface;
+pub use module::{
+    Custom, Customs, ExportEntry, ExportKind, Exports, FuncBodies, FuncBody, FuncType, FuncTypes,
+    GlobalVar, Globals, Import, ImportKind, Imports, Indices, Limits, LocalRun, LocalRuns,
+    Memories, Module, Segment, Segments, ValType, ValTypes,
+};
+pub use op::{BinaryOp, CompareOp, ConvertOp, LoadOp, StoreOp, UnaryOp};

@@ -1,0 +1,4 @@
+pub mod Bytes
+pub mod Runs
+pub mod Types
+pub mod Hosts

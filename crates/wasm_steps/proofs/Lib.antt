@@ -1,0 +1,11 @@
+pub mod Compose
+pub mod Instructions
+pub mod Control
+pub mod Budgets
+pub mod Calls
+pub mod Dispatch
+pub mod Windows
+pub mod Bytes
+pub mod Example
+pub mod Variables
+pub mod Tells

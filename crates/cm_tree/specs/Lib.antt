@@ -1,0 +1,5 @@
+pub mod Patch
+pub mod Resume
+pub mod Run
+pub mod Sizes
+pub mod Through

@@ -1,0 +1,5 @@
+pub mod Faults
+pub mod Folders
+pub mod Rows
+pub mod Texts
+pub mod Values

@@ -1,0 +1,4 @@
+pub mod Runs
+pub mod Lexemes
+pub mod Named
+pub mod Forms

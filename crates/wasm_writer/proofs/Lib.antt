@@ -1,0 +1,13 @@
+pub mod Begins
+pub mod DescriptionLemmas
+pub mod EntryLemmas
+pub mod InstructionLemmas
+pub mod LeastModules
+pub mod LeastParts
+pub mod ModuleLemmas
+pub mod Numbers
+pub mod Parts
+pub mod Runs
+pub mod SampleLemmas
+pub mod SectionLemmas
+pub mod TypeLemmas

@@ -1,0 +1,25 @@
+//! Writes a module of WebAssembly 1.0 in its shortest spelling: shortest numbers, no empty section, and the
+//! custom sections last. The layers above call `write_module`. Its bytes are `spelling` of `specs/Spelling`,
+//! which is a function of the module, and they spell the module as `Spelled` of `wasm_tree` says. What it
+//! asks of a module is `IsWritable`. Two laws go with it: no spelling of a module is shorter, and a module
+//! that fewer than 2 ^ 32 bytes spell is writable.
+#![tactic(auto)]
+
+mod description;
+#[cfg(test)]
+mod description_tests;
+mod entry;
+mod instruction;
+mod laws;
+mod number;
+mod opcode;
+mod part;
+mod types;
+mod writing;
+
+pub use description::write_section;
+pub use laws::{spelled_is_writable, spelling_is_shortest};
+pub use writing::write_module;
+
+#[cfg(test)]
+mod tests;

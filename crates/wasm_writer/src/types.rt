@@ -1,0 +1,103 @@
+ghost use Rattle.std.specs.Prelude.{◌≡◌, ◌++◌, ◌∷◌, [], OnOk};
+ghost use Rattle.wasm_tree.specs.Spelled.{Bounds, type_byte, Type_of_value};
+ghost use Rattle.wasm_writer.specs.Spelling.{bounds_bytes};
+
+use crate::number::put_unsigned;
+use crate::part::{Part, put_vector};
+use cm_base::NoMemory;
+use wasm_tree::{FuncType, Limits, ValType};
+
+impl Part for u32 {
+    ghost use Rattle.wasm_tree.specs.Spelled.{Index};
+    ghost use Rattle.wasm_writer.specs.Spelling.{unsigned_bytes};
+
+    ghost written = { unsigned_bytes };
+
+    ghost allowed = { Index };
+
+    ghost formed = { λ _. Unit {0} };
+
+    fn put(&self, out: &mut Vec<u8>) -> Result<(), NoMemory> {
+        put_unsigned(out, *self)
+    }
+}
+
+/// The byte of a type of values (Core Specification 1.0, 5.3.1).
+pub fn byte_of_type(ty: ValType) -> u8
+    ensures { result ≡ type_byte ty }
+{
+    match ty {
+        ValType::I32 => 0x7F,
+        ValType::I64 => 0x7E,
+    }
+}
+
+impl Part for ValType {
+    ghost use Rattle.wasm_tree.specs.Spelled.{Type_of_value};
+    ghost use Rattle.wasm_writer.specs.Spelling.{value_type_bytes};
+
+    ghost written = { value_type_bytes };
+
+    ghost allowed = { Type_of_value };
+
+    ghost formed = { λ _. Unit {0} };
+
+    fn put(&self, out: &mut Vec<u8>) -> Result<(), NoMemory> {
+        out.push(byte_of_type(*self))?;
+        Ok(())
+    }
+}
+
+impl Part for FuncType {
+    ghost use Rattle.wasm_tree.specs.Spelled.{Type_of_function};
+    ghost use Rattle.wasm_writer.specs.Spelling.{function_type_bytes};
+
+    ghost written = { function_type_bytes };
+
+    ghost allowed = { Type_of_function };
+
+    ghost formed = { λ _. Unit {0} };
+
+    #[tactic(auto, using(crate::proofs::TypeLemmas::function_type_spelled, crate::proofs::TypeLemmas::function_type_sizes))]
+    fn put(&self, out: &mut Vec<u8>) -> Result<(), NoMemory> {
+        out.push(0x60)?;
+        put_vector(out, self.params.as_slice())?;
+        put_vector(out, self.results.as_slice())
+    }
+}
+
+#[tactic(auto, using(crate::proofs::TypeLemmas::least_spelled, crate::proofs::TypeLemmas::bounds_spelled))]
+/// Appends the bounds of a memory (Core Specification 1.0, 5.3.4).
+pub fn put_bounds(out: &mut Vec<u8>, least: u32, most: Option<u32>) -> Result<(), NoMemory>
+    ensures appended { OnOk result (out.new.items ≡ out.old.items ++ bounds_bytes least most) }
+    ensures spelled { OnOk result (Bounds least most (bounds_bytes least most)) }
+{
+    match most {
+        None => {
+            out.push(0x00)?;
+            put_unsigned(out, least)?;
+            Ok(())
+        }
+        Some(most) => {
+            out.push(0x01)?;
+            put_unsigned(out, least)?;
+            put_unsigned(out, most)?;
+            Ok(())
+        }
+    }
+}
+
+impl Part for Limits {
+    ghost use Rattle.wasm_tree.specs.Spelled.{Memory};
+    ghost use Rattle.wasm_writer.specs.Spelling.{memory_bytes};
+
+    ghost written = { memory_bytes };
+
+    ghost allowed = { Memory };
+
+    ghost formed = { λ _. Unit {0} };
+
+    fn put(&self, out: &mut Vec<u8>) -> Result<(), NoMemory> {
+        put_bounds(out, self.min, self.max)
+    }
+}

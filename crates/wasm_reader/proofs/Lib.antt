@@ -1,0 +1,15 @@
+pub mod Steps
+pub mod Numbers
+pub mod Names
+pub mod Laws
+pub mod NumberLaws
+pub mod PartLaws
+pub mod Forms
+pub mod CodeLaws
+pub mod SectionLaws
+pub mod ModuleLaws
+pub mod FaultLaws
+pub mod PartFaults
+pub mod CodeFaults
+pub mod SectionFaults
+pub mod ModuleFaults

@@ -1,0 +1,259 @@
+-- Which rule fails where: docs/MODULE.md, "What is refused". Each definition relates a rule, how many bytes are
+-- left from the byte at which it fails, and the bytes. A rule fails at a byte only where the parts before it are
+-- spelled, one after another.
+use Rattle.std.specs.Prelude.{ℕ, ◌≡◌, ◌≢◌, ◌+◌, ◌-◌, ◌<◌, ◌≤◌, ◌⊎◌, List, [], ◌∷◌, ◌++◌, length, take, Contains, Option, Bool, true, false, ◌==◌, if◌then◌else◌}
+use Rattle.std.specs.Str.{IsUtf8}
+use Rattle.std.specs.Str.Lossy.{utf8_valid_len}
+use Rattle.wasm_tree.specs.declared.failure.ModuleRule.{ModuleRule}
+use Rattle.wasm_tree.specs.declared.failure.ModuleRule.TheVariants as rule
+use Rattle.wasm_tree.specs.declared.failure.ModuleFail.{ModuleFail}
+use Rattle.wasm_tree.specs.declared.failure.ModuleFail.TheVariants as fail
+use Rattle.wasm_tree.specs.declared.module.ValType.{ValType}
+use Rattle.wasm_tree.specs.declared.module.FuncType.{FuncType}
+use Rattle.wasm_tree.specs.declared.module.Import.{Import}
+use Rattle.wasm_tree.specs.declared.module.Limits.{Limits}
+use Rattle.wasm_tree.specs.declared.module.ExportEntry.{ExportEntry}
+use Rattle.wasm_tree.specs.declared.module.GlobalVar.{GlobalVar}
+use Rattle.wasm_tree.specs.declared.module.FuncBody.{FuncBody}
+use Rattle.wasm_tree.specs.declared.module.Segment.{Segment}
+use Rattle.wasm_tree.specs.declared.module.Custom.{Custom}
+use Rattle.wasm_tree.specs.declared.instr.Instr.{Instr}
+use Rattle.wasm_tree.specs.declared.instr.Instr.TheVariants as instr
+use Rattle.wasm_tree.specs.Spelled.{Joined, Is, Begins, Each, Vector, Index, Signed, Name, Type_of_value, Type_of_function, Memory, Imported, Exported, Global, Data, Locals, Body, Expression, Instruction, Custom_contents, Raw, Section, ids, InOrder, Lists, header, type_byte, result_byte, mutable_byte}
+
+-- ---- parts and sequences
+
+-- the first part fails, or it is spelled and what follows it fails
+abbrev pub InTurn : {A : Type 0} → (ModuleRule → ℕ → List ℕ → Type 0) → (A → List ℕ → Type 0) → (A → ModuleRule → ℕ → List ℕ → Type 0) → ModuleRule → ℕ → List ℕ → Type 0
+InTurn {A} F P G r left bytes = F r left bytes ⊎ ((x : A) × Joined (P x) (G x r left) bytes)
+
+-- `Opcode`: another byte stands where one of these is due; `Size`: it is missing
+abbrev pub OtherByte : (ℕ → Type 0) → ModuleRule → ℕ → List ℕ → Type 0
+OtherByte due r left [] = (r ≡ rule.Size) × (left ≡ 0)
+OtherByte due r left (b ∷ bytes) = (r ≡ rule.Opcode) × (left ≡ length (b ∷ bytes)) × (due b → ⊥)
+
+-- the byte that is due isn't there, or what follows it fails
+abbrev pub Behind : ℕ → (ModuleRule → ℕ → List ℕ → Type 0) → ModuleRule → ℕ → List ℕ → Type 0
+Behind due G r left bytes = OtherByte (λ b. b ≡ due) r left bytes ⊎ Begins due (G r left) bytes
+
+-- ---- values
+
+-- `Number`: however the bytes go on, no number of the kind begins them; `Size`: the rest of one is missing
+abbrev pub NoNumber : {A : Type 0} → (A → List ℕ → Type 0) → ModuleRule → ℕ → List ℕ → Type 0
+NoNumber {A} P r left bytes =
+    ((r ≡ rule.Number) × (left ≡ length bytes) × ((x : A) (more front back : List ℕ) → bytes ++ more ≡ front ++ back → P x front → ⊥))
+    ⊎ ((r ≡ rule.Size) × (left ≡ 0) × (x : A) × (more : List ℕ) × (0 < length more) × P x (bytes ++ more))
+
+abbrev pub NoIndex : ModuleRule → ℕ → List ℕ → Type 0
+NoIndex = NoNumber Index
+
+-- the count fails, or after fewer elements than it says one fails
+abbrev pub NoVector : {A : Type 0} → (A → List ℕ → Type 0) → (ModuleRule → ℕ → List ℕ → Type 0) → ModuleRule → ℕ → List ℕ → Type 0
+NoVector {A} P F = InTurn NoIndex Index (λ n r left bytes. (xs : List A) × (length xs < n) × Joined (Each P xs) (F r left) bytes)
+
+-- `Size`: fewer bytes are left than the length says
+abbrev pub TooShort : ℕ → ModuleRule → ℕ → List ℕ → Type 0
+TooShort n r left bytes = (r ≡ rule.Size) × (left ≡ 0) × (length bytes < n)
+
+abbrev pub NoText : ModuleRule → ℕ → List ℕ → Type 0
+NoText = InTurn NoIndex Index TooShort
+
+-- `Text`: so many bytes are no UTF-8; the rule fails behind the longest front that is
+abbrev pub IllFormed : ℕ → ModuleRule → ℕ → List ℕ → Type 0
+IllFormed n r left bytes = (r ≡ rule.Text) × (n ≤ length bytes) × (IsUtf8 (take n bytes) → ⊥) × (left ≡ length bytes - utf8_valid_len (take n bytes))
+
+abbrev pub NoName : ModuleRule → ℕ → List ℕ → Type 0
+NoName = InTurn NoIndex Index (λ n r left bytes. TooShort n r left bytes ⊎ IllFormed n r left bytes)
+
+-- What fills a size of n bytes fails; or `Size`: it ends before the size does, or fewer bytes are left.
+abbrev pub Unfilled : {A : Type 0} → (A → List ℕ → Type 0) → (ModuleRule → ℕ → List ℕ → Type 0) → ℕ → ModuleRule → ℕ → List ℕ → Type 0
+Unfilled {A} P F n r left bytes =
+    ((inner : ℕ) × F r inner (take n bytes) × (left + length (take n bytes) ≡ inner + length bytes))
+    ⊎ ((x : A) × (front : List ℕ) × (back : List ℕ) × (take n bytes ≡ front ++ back) × P x front × (r ≡ rule.Size) × (left + length front ≡ length bytes) × ((0 < length back) ⊎ (length bytes < n)))
+
+abbrev pub NoneSized : {A : Type 0} → (A → List ℕ → Type 0) → (ModuleRule → ℕ → List ℕ → Type 0) → ModuleRule → ℕ → List ℕ → Type 0
+NoneSized P F = InTurn NoIndex Index (Unfilled P F)
+
+-- ---- types and entries
+
+abbrev pub NoType : ModuleRule → ℕ → List ℕ → Type 0
+NoType = OtherByte (λ b. (t : ValType) × (b ≡ type_byte t))
+
+abbrev pub NoFunctionType : ModuleRule → ℕ → List ℕ → Type 0
+NoFunctionType = Behind 0x60 (InTurn (NoVector Type_of_value NoType) (Vector Type_of_value) (λ _. NoVector Type_of_value NoType))
+
+abbrev pub NoMemory : ModuleRule → ℕ → List ℕ → Type 0
+NoMemory r left bytes = OtherByte (λ b. (b ≡ 0x00) ⊎ (b ≡ 0x01)) r left bytes ⊎ (Begins 0x00 (NoIndex r left) bytes ⊎ Begins 0x01 (InTurn NoIndex Index (λ _. NoIndex) r left) bytes)
+
+abbrev pub NoImportKind : ModuleRule → ℕ → List ℕ → Type 0
+NoImportKind r left bytes = OtherByte (λ b. (b ≡ 0x00) ⊎ (b ≡ 0x02)) r left bytes ⊎ (Begins 0x00 (NoIndex r left) bytes ⊎ Begins 0x02 (NoMemory r left) bytes)
+
+abbrev pub NoExportKind : ModuleRule → ℕ → List ℕ → Type 0
+NoExportKind r left bytes = OtherByte (λ b. (b ≡ 0x00) ⊎ (b ≡ 0x02)) r left bytes ⊎ (Begins 0x00 (NoIndex r left) bytes ⊎ Begins 0x02 (NoIndex r left) bytes)
+
+abbrev pub NoImport : ModuleRule → ℕ → List ℕ → Type 0
+NoImport = InTurn NoName Name (λ _. InTurn NoName Name (λ _. NoImportKind))
+
+abbrev pub NoExport : ModuleRule → ℕ → List ℕ → Type 0
+NoExport = InTurn NoName Name (λ _. NoExportKind)
+
+-- a global's first value is a constant, and ended
+abbrev pub NoConstant : ModuleRule → ℕ → List ℕ → Type 0
+NoConstant r left bytes =
+    OtherByte (λ b. (b ≡ 0x41) ⊎ (b ≡ 0x42)) r left bytes ⊎ (Begins 0x41 (NoNumber (Signed 32) r left) bytes ⊎ Begins 0x42 (NoNumber (Signed 64) r left) bytes)
+
+abbrev pub NoGlobal : ModuleRule → ℕ → List ℕ → Type 0
+NoGlobal = InTurn NoType Type_of_value (λ _. InTurn (OtherByte (λ b. (m : Bool) × (b ≡ mutable_byte m))) (λ m bytes. bytes ≡ mutable_byte m ∷ [])
+    (λ _. InTurn NoConstant Instruction (λ _. OtherByte (λ b. b ≡ 0x0B))))
+
+abbrev pub NoData : ModuleRule → ℕ → List ℕ → Type 0
+NoData = InTurn NoIndex Index (λ _. Behind 0x41 (InTurn (NoNumber (Signed 32)) (Signed 32) (λ _. Behind 0x0B NoText)))
+
+abbrev pub NoLocals : ModuleRule → ℕ → List ℕ → Type 0
+NoLocals = InTurn NoIndex Index (λ _. NoType)
+
+-- ---- instructions and code
+
+abbrev pub IsOpcode : ℕ → Type 0
+IsOpcode b = (i : Instr) × (bytes : List ℕ) × Instruction i (b ∷ bytes)
+
+abbrev pub IsResult : ℕ → Type 0
+IsResult b = (t : Option ValType) × (b ≡ result_byte t)
+
+-- what stands behind the opcode of such an instruction fails
+abbrev pub NoImmediate : Instr → ModuleRule → ℕ → List ℕ → Type 0
+NoImmediate (instr.Block t) r left bytes = OtherByte IsResult r left bytes
+NoImmediate (instr.Loop t) r left bytes = OtherByte IsResult r left bytes
+NoImmediate (instr.If t) r left bytes = OtherByte IsResult r left bytes
+NoImmediate (instr.Br n) r left bytes = NoIndex r left bytes
+NoImmediate (instr.BrIf n) r left bytes = NoIndex r left bytes
+NoImmediate (instr.BrTable ns n) r left bytes = InTurn (NoVector Index NoIndex) (Vector Index) (λ _. NoIndex) r left bytes
+NoImmediate (instr.Call n) r left bytes = NoIndex r left bytes
+NoImmediate (instr.LocalGet n) r left bytes = NoIndex r left bytes
+NoImmediate (instr.LocalSet n) r left bytes = NoIndex r left bytes
+NoImmediate (instr.LocalTee n) r left bytes = NoIndex r left bytes
+NoImmediate (instr.GlobalGet n) r left bytes = NoIndex r left bytes
+NoImmediate (instr.GlobalSet n) r left bytes = NoIndex r left bytes
+NoImmediate (instr.Load op place) r left bytes = InTurn NoIndex Index (λ _. NoIndex) r left bytes
+NoImmediate (instr.Store op place) r left bytes = InTurn NoIndex Index (λ _. NoIndex) r left bytes
+NoImmediate instr.MemorySize r left bytes = OtherByte (λ b. b ≡ 0x00) r left bytes
+NoImmediate (instr.I32Const z) r left bytes = NoNumber (Signed 32) r left bytes
+NoImmediate (instr.I64Const z) r left bytes = NoNumber (Signed 64) r left bytes
+NoImmediate _ r left bytes = ⊥
+
+-- no opcode, or the opcode of some instruction and then what can't stand behind it
+abbrev pub NoInstruction : ModuleRule → ℕ → List ℕ → Type 0
+NoInstruction r left bytes =
+    OtherByte IsOpcode r left bytes
+    ⊎ ((i : Instr) × (opcode : ℕ) × (like : List ℕ) × (rest : List ℕ) × (bytes ≡ opcode ∷ rest) × Instruction i (opcode ∷ like) × NoImmediate i r left rest)
+
+-- after these instructions these sequences are open, innermost first, as `IsClosed` of wasm_tree counts them
+abbrev pub IsOpen : List Bool → List Instr → List Bool → Type 0
+IsOpen arms [] after = after ≡ arms
+IsOpen [] (instr.End ∷ code) after = ⊥
+IsOpen (arm ∷ arms) (instr.End ∷ code) after = IsOpen arms code after
+IsOpen [] (instr.Else ∷ code) after = ⊥
+IsOpen (false ∷ arms) (instr.Else ∷ code) after = ⊥
+IsOpen (true ∷ arms) (instr.Else ∷ code) after = IsOpen (false ∷ arms) code after
+IsOpen arms (instr.Block result ∷ code) after = IsOpen (false ∷ arms) code after
+IsOpen arms (instr.Loop result ∷ code) after = IsOpen (false ∷ arms) code after
+IsOpen arms (instr.If result ∷ code) after = IsOpen (true ∷ arms) code after
+IsOpen arms (_ ∷ code) after = IsOpen arms code after
+
+-- `Opcode`: an `else` stands outside the first arm of an `if`
+abbrev pub StrayElse : List Bool → ModuleRule → ℕ → List ℕ → Type 0
+StrayElse (true ∷ arms) r left bytes = ⊥
+StrayElse _ r left bytes = (r ≡ rule.Opcode) × (left ≡ length bytes) × (rest : List ℕ) × (bytes ≡ 0x05 ∷ rest)
+
+-- after instructions that don't end the function, one fails
+abbrev pub NoExpression : ModuleRule → ℕ → List ℕ → Type 0
+NoExpression r left bytes =
+    (code : List Instr) × (arms : List Bool) × IsOpen [] code arms × Joined (Each Instruction code) (λ back. NoInstruction r left back ⊎ StrayElse arms r left back) bytes
+
+abbrev pub BodyContents : FuncBody → List ℕ → Type 0
+BodyContents body = Joined (Vector Locals body.locals) (Expression body.code)
+
+abbrev pub NoBody : ModuleRule → ℕ → List ℕ → Type 0
+NoBody = NoneSized BodyContents (InTurn (NoVector Locals NoLocals) (Vector Locals) (λ _. NoExpression))
+
+-- ---- sections and modules
+
+-- contents that a section with this id may have
+abbrev pub Holds : ℕ → List ℕ → Type 0
+Holds id contents =
+    ((id ≡ 0) × (c : Custom) × Custom_contents c contents)
+    ⊎ (((id ≡ 1) × (xs : List FuncType) × Vector Type_of_function xs contents)
+    ⊎ (((id ≡ 2) × (xs : List Import) × Vector Imported xs contents)
+    ⊎ (((id ≡ 3) × (xs : List ℕ) × Vector Index xs contents)
+    ⊎ (((id ≡ 5) × (xs : List Limits) × Vector Memory xs contents)
+    ⊎ (((id ≡ 6) × (xs : List GlobalVar) × Vector Global xs contents)
+    ⊎ (((id ≡ 7) × (xs : List ExportEntry) × Vector Exported xs contents)
+    ⊎ (((id ≡ 10) × (xs : List FuncBody) × Vector Body xs contents)
+    ⊎ (((id ≡ 11) × (xs : List Segment) × Vector Data xs contents)))))))))
+
+-- the size and the contents behind this id fail
+abbrev pub NoContents : ℕ → ModuleRule → ℕ → List ℕ → Type 0
+NoContents id r left bytes =
+    ((id ≡ 0) × NoneSized Custom_contents NoName r left bytes)
+    ⊎ (((id ≡ 1) × NoneSized (Vector Type_of_function) (NoVector Type_of_function NoFunctionType) r left bytes)
+    ⊎ (((id ≡ 2) × NoneSized (Vector Imported) (NoVector Imported NoImport) r left bytes)
+    ⊎ (((id ≡ 3) × NoneSized (Vector Index) (NoVector Index NoIndex) r left bytes)
+    ⊎ (((id ≡ 5) × NoneSized (Vector Memory) (NoVector Memory NoMemory) r left bytes)
+    ⊎ (((id ≡ 6) × NoneSized (Vector Global) (NoVector Global NoGlobal) r left bytes)
+    ⊎ (((id ≡ 7) × NoneSized (Vector Exported) (NoVector Exported NoExport) r left bytes)
+    ⊎ (((id ≡ 10) × NoneSized (Vector Body) (NoVector Body NoBody) r left bytes)
+    ⊎ (((id ≡ 11) × NoneSized (Vector Data) (NoVector Data NoData) r left bytes)))))))))
+
+abbrev pub AllHold : List Raw → Type 0
+AllHold [] = Unit {0}
+AllHold (raw ∷ raws) = Holds raw.id raw.contents × AllHold raws
+
+-- the id of the last section that isn't a custom one, or else before
+abbrev pub last_id : ℕ → List Raw → ℕ
+last_id before [] = before
+last_id before (raw ∷ raws) = if raw.id == 0 then last_id before raws else last_id raw.id raws
+
+-- an id that may come next
+abbrev pub MayFollow : ℕ → ℕ → Type 0
+MayFollow before id = (id ≡ 0) ⊎ ((before < id) × Contains ids id)
+
+-- `Section`: another id stands where one that may come next is due; or behind one the size or the contents fail
+abbrev pub NoSection : ℕ → ModuleRule → ℕ → List ℕ → Type 0
+NoSection before r left [] = ⊥
+NoSection before r left (id ∷ bytes) =
+    ((r ≡ rule.Section) × (left ≡ length (id ∷ bytes)) × (MayFollow before id → ⊥)) ⊎ (MayFollow before id × NoContents id r left bytes)
+
+-- the next byte isn't the one that is due, or is missing
+abbrev pub Differs : List ℕ → List ℕ → Type 0
+Differs bytes [] = ⊥
+Differs [] (due ∷ dues) = Unit {0}
+Differs (b ∷ bytes) (due ∷ dues) = b ≡ due → ⊥
+
+-- `Header`: the byte isn't the header's
+abbrev pub NoHeader : ModuleRule → ℕ → List ℕ → Type 0
+NoHeader r left bytes =
+    (r ≡ rule.Header) × (front : List ℕ) × (back : List ℕ) × (dues : List ℕ) × (bytes ≡ front ++ back) × (header ≡ front ++ dues) × (left ≡ length back) × Differs back dues
+
+-- after the header, and sections in order that hold what they may, the next section fails
+abbrev pub NoNext : ModuleRule → ℕ → List ℕ → Type 0
+NoNext r left bytes =
+    (raws : List Raw) × InOrder 0 raws × AllHold raws × Joined (Is header) (Joined (Each Section raws) (NoSection (last_id 0 raws) r left)) bytes
+
+-- `Size`, at the end: codes and functions differ in number
+abbrev pub CountsDiffer : ModuleRule → ℕ → List ℕ → Type 0
+CountsDiffer r left bytes =
+    (r ≡ rule.Size) × (left ≡ 0) × (raws : List Raw) × (functions : List ℕ) × (codes : List FuncBody)
+    × InOrder 0 raws × Joined (Is header) (Each Section raws) bytes × Lists Index 3 raws functions × Lists Body 10 raws codes × (length functions ≢ length codes)
+
+-- the rule fails at the byte from which so many are left
+abbrev pub NoModule : ModuleRule → ℕ → List ℕ → Type 0
+NoModule r left bytes = NoHeader r left bytes ⊎ (NoNext r left bytes ⊎ CountsDiffer r left bytes)
+
+-- the rule fails at the byte with this number, counted from 0
+abbrev pub FailsAt : ModuleRule → ℕ → List ℕ → Type 0
+FailsAt r offset bytes = (left : ℕ) × (offset + left ≡ length bytes) × NoModule r left bytes
+
+-- a module isn't read for want of memory, or because a rule fails at the offset
+abbrev pub IsCause : ModuleFail → List ℕ → Type 0
+IsCause fail.NoMemory bytes = Unit {0}
+IsCause (fail.Refused refused) bytes = FailsAt refused.rule refused.offset bytes

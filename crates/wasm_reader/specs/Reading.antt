@@ -1,0 +1,397 @@
+-- Reading from left to right, with the first fault that is met.
+use Rattle.std.specs.Prelude.{◌≡◌, ℕ, zero, suc, ◌+◌, ◌-◌, ◌*◌, ◌^◌, min, List, [], ◌∷◌, ◌++◌, length, take, drop, slice_index_or, Option, Some, None, Result, Ok, Err, nat_lt, nat_le, ◌==◌, if◌then◌else◌, Bool, true, false, ◌&&◌, ℤ, pos, ◌+ℤ◌, ◌-ℤ◌, ◌*ℤ◌}
+use Rattle.std.specs.Str.{is_utf8}
+use Rattle.std.specs.Str.Lossy.{utf8_valid_len}
+use Rattle.wasm_tree.specs.declared.failure.ModuleRule.{ModuleRule}
+use Rattle.wasm_tree.specs.declared.failure.ModuleRule.TheVariants as rule
+use Rattle.wasm_tree.specs.declared.module.ValType.{ValType}
+use Rattle.wasm_tree.specs.declared.module.ValType.TheVariants.{I32, I64}
+use Rattle.wasm_tree.specs.declared.module.FuncType.{FuncType}
+use Rattle.wasm_tree.specs.declared.module.Limits.{Limits}
+use Rattle.wasm_tree.specs.declared.module.ImportKind.{ImportKind}
+use Rattle.wasm_tree.specs.declared.module.ImportKind.TheVariants as imported
+use Rattle.wasm_tree.specs.declared.module.Import.{Import}
+use Rattle.wasm_tree.specs.declared.module.ExportKind.{ExportKind}
+use Rattle.wasm_tree.specs.declared.module.ExportKind.TheVariants as exported
+use Rattle.wasm_tree.specs.declared.module.ExportEntry.{ExportEntry}
+use Rattle.wasm_tree.specs.declared.module.GlobalVar.{GlobalVar}
+use Rattle.wasm_tree.specs.declared.module.LocalRun.{LocalRun}
+use Rattle.wasm_tree.specs.declared.module.Segment.{Segment}
+use Rattle.wasm_tree.specs.declared.instr.MemArg.{MemArg}
+use Rattle.wasm_tree.specs.declared.instr.Instr.{Instr}
+use Rattle.wasm_tree.specs.declared.instr.Instr.TheVariants as instr
+use Rattle.wasm_tree.specs.declared.module.FuncBody.{FuncBody}
+use Rattle.wasm_tree.specs.declared.module.Custom.{Custom}
+use Rattle.wasm_tree.specs.declared.module.Module.{Module}
+use Rattle.wasm_tree.specs.Spelled.{is_text, cmajor, header}
+use Rattle.wasm_reader.specs.declared.section.Found.{Found}
+use Rattle.wasm_reader.specs.declared.reader.FirstParts.{FirstParts}
+use Rattle.wasm_reader.specs.declared.reader.LastParts.{LastParts}
+use Rattle.wasm_reader.specs.declared.fault.Fault.{Fault}
+use Rattle.wasm_reader.specs.declared.fault.ReadFail.{ReadFail}
+use Rattle.wasm_reader.specs.declared.fault.ReadFail.TheVariants as fail
+use Rattle.wasm_reader.specs.declared.form.Bare.{Bare}
+use Rattle.wasm_reader.specs.declared.form.Bare.TheVariants as bare
+use Rattle.wasm_reader.specs.declared.form.Opening.{Opening}
+use Rattle.wasm_reader.specs.declared.form.Opening.TheVariants as opening
+use Rattle.wasm_reader.specs.declared.form.Indexed.{Indexed}
+use Rattle.wasm_reader.specs.declared.form.Indexed.TheVariants as indexed
+use Rattle.wasm_reader.specs.declared.form.Form.{Form}
+use Rattle.wasm_reader.specs.declared.form.Form.TheVariants as form
+use Rattle.wasm_reader.specs.declared.opcodes.TheConstants.{FORMS}
+
+infixl 10 ◌>>=◌
+abbrev pub ◌>>=◌ : {A B : Type 0} → Result A Fault → (A → Result B Fault) → Result B Fault
+(Ok x) >>= f = f x
+(Err e) >>= f = Err e
+
+abbrev pub at : ModuleRule → ℕ → Fault
+at r n = record { rule = r; left = n }
+
+-- What a function returned, seen by view, is what reading gives, unless memory ran out.
+abbrev pub Fails : {Y : Type 0} → ReadFail → Result Y Fault → Type 0
+Fails fail.NoMemory read = Unit {0}
+Fails (fail.Fault f) read = read ≡ Err f
+
+abbrev pub Gives : {X Y : Type 0} → (X → Y) → Result X ReadFail → Result Y Fault → Type 0
+Gives view (Ok x) read = read ≡ Ok (view x)
+Gives view (Err e) read = Fails e read
+
+abbrev pub Reader : Type 0 → Type 0
+Reader A = List ℕ → Result (A × List ℕ) Fault
+
+-- the first byte
+unfoldable pub byte_at : Reader ℕ
+byte_at [] = Err (at rule.Size 0)
+byte_at (b ∷ rest) = Ok (b, rest)
+
+-- ---- numbers
+
+-- a number of at most this many bits, which began where start bytes were left
+unfoldable pub unsigned_from : ℕ → ℕ → Reader ℕ
+unsigned_from start bits [] = Err (at rule.Size 0)
+unsigned_from start bits (b ∷ rest) =
+    if nat_lt b 128 then (if nat_lt b (2 ^ bits) then Ok (b, rest) else Err (at rule.Number start))
+    else (if nat_lt 7 bits && nat_lt b 256 then (unsigned_from start (bits - 7) rest >>= λ high. Ok ((b - 128) + 128 * high.0, high.1)) else Err (at rule.Number start))
+
+unfoldable pub index_at : Reader ℕ
+index_at bytes = unsigned_from (length bytes) 32 bytes
+
+-- the same with a sign
+unfoldable pub signed_from : ℕ → ℕ → Reader ℤ
+signed_from start bits [] = Err (at rule.Size 0)
+signed_from start bits (b ∷ rest) =
+    if nat_lt b 64 then (if nat_lt b (2 ^ (bits - 1)) then Ok (pos b, rest) else Err (at rule.Number start))
+    else (if nat_lt b 128 then (if nat_lt (127 - b) (2 ^ (bits - 1)) then Ok (pos b -ℤ pos 128, rest) else Err (at rule.Number start))
+    else (if nat_lt 7 bits && nat_lt b 256 then (signed_from start (bits - 7) rest >>= λ high. Ok (pos (b - 128) +ℤ (pos 128 *ℤ high.0), high.1)) else Err (at rule.Number start)))
+
+unfoldable pub signed_at : ℕ → Reader ℤ
+signed_at bits bytes = signed_from (length bytes) bits bytes
+
+-- the bytes after the one that is due
+unfoldable pub fixed_at : ℕ → List ℕ → Result (List ℕ) Fault
+fixed_at due bytes = do
+  b ← byte_at bytes
+  if b.0 == due then Ok b.1 else Err (at rule.Opcode (length bytes))
+
+-- ---- lists
+
+unfoldable pub each_at : {A : Type 0} → Reader A → ℕ → Reader (List A)
+each_at f zero bytes = Ok ([], bytes)
+each_at f (suc n) bytes = f bytes >>= λ first. each_at f n first.1 >>= λ others. Ok (first.0 ∷ others.0, others.1)
+
+unfoldable pub vector_at : {A : Type 0} → Reader A → Reader (List A)
+vector_at f bytes = do
+  count ← index_at bytes
+  each_at f count.0 count.1
+
+-- a fault in contents, counted to the end of the whole that they are the front of
+abbrev pub moved : ℕ → ℕ → Fault → Fault
+moved contents whole f = record { rule = f.rule; left = whole - (contents - f.left) }
+
+abbrev pub outside_of : ℕ → ℕ → ReadFail → ReadFail
+outside_of contents whole fail.NoMemory = fail.NoMemory
+outside_of contents whole (fail.Fault f) = fail.Fault (moved contents whole f)
+
+-- contents that fill their size, and what follows them
+abbrev pub full_at : {A : Type 0} → ℕ → List ℕ → Result (A × List ℕ) Fault → Result (A × List ℕ) Fault
+full_at size rest (Err f) = Err (moved (min size (length rest)) (length rest) f)
+full_at size rest (Ok x) =
+    if (length x.1 == 0) && nat_le size (length rest) then Ok (x.0, drop size rest)
+    else Err (moved (min size (length rest)) (length rest) (at rule.Size (length x.1)))
+
+unfoldable pub filled_at : {A : Type 0} → Reader A → Reader A
+filled_at f bytes = do
+  size ← index_at bytes
+  full_at size.0 size.1 (f (take size.0 size.1))
+
+unfoldable pub text_at : Reader (List ℕ)
+text_at bytes = do
+  n ← index_at bytes
+  if nat_lt (length n.1) n.0 then Err (at rule.Size 0) else Ok (take n.0 n.1, drop n.0 n.1)
+
+unfoldable pub name_at : Reader (List ℕ)
+name_at bytes = do
+  n ← index_at bytes
+  if nat_lt (length n.1) n.0 then Err (at rule.Size 0)
+      else (if is_utf8 (take n.0 n.1) then Ok (take n.0 n.1, drop n.0 n.1) else Err (at rule.Text (length n.1 - utf8_valid_len (take n.0 n.1))))
+
+-- ---- types and entries
+
+unfoldable pub type_at : Reader ValType
+type_at bytes = do
+  b ← byte_at bytes
+  if b.0 == 0x7F then Ok (I32, b.1) else (if b.0 == 0x7E then Ok (I64, b.1) else Err (at rule.Opcode (length bytes)))
+
+unfoldable pub function_type_at : Reader FuncType
+function_type_at bytes = do
+  rest ← fixed_at 0x60 bytes
+  params ← vector_at type_at rest
+  results ← vector_at type_at params.1
+  Ok (record { params = params.0; results = results.0 }, results.1)
+
+unfoldable pub memory_at : Reader Limits
+memory_at bytes = do
+  b ← byte_at bytes
+  if b.0 == 0x00 then (index_at b.1 >>= λ least. Ok (record { min = least.0; max = None }, least.1))
+      else (if b.0 == 0x01 then (index_at b.1 >>= λ least. index_at least.1 >>= λ most. Ok (record { min = least.0; max = Some most.0 }, most.1))
+      else Err (at rule.Opcode (length bytes)))
+
+unfoldable pub import_kind_at : Reader ImportKind
+import_kind_at bytes = do
+  b ← byte_at bytes
+  if b.0 == 0x00 then (index_at b.1 >>= λ n. Ok (imported.Function n.0, n.1))
+      else (if b.0 == 0x02 then (memory_at b.1 >>= λ m. Ok (imported.Memory m.0, m.1))
+      else Err (at rule.Opcode (length bytes)))
+
+unfoldable pub import_at : Reader Import
+import_at bytes = do
+  m ← name_at bytes
+  n ← name_at m.1
+  kind ← import_kind_at n.1
+  Ok (record { «module» = m.0; name = n.0; kind = kind.0 }, kind.1)
+
+unfoldable pub export_kind_at : Reader ExportKind
+export_kind_at bytes = do
+  b ← byte_at bytes
+  if b.0 == 0x00 then (index_at b.1 >>= λ n. Ok (exported.Function n.0, n.1))
+      else (if b.0 == 0x02 then (index_at b.1 >>= λ n. Ok (exported.Memory n.0, n.1))
+      else Err (at rule.Opcode (length bytes)))
+
+unfoldable pub export_at : Reader ExportEntry
+export_at bytes = do
+  n ← name_at bytes
+  kind ← export_kind_at n.1
+  Ok (record { name = n.0; kind = kind.0 }, kind.1)
+
+unfoldable pub mutable_at : Reader Bool
+mutable_at bytes = do
+  b ← byte_at bytes
+  if b.0 == 0x00 then Ok (false, b.1) else (if b.0 == 0x01 then Ok (true, b.1) else Err (at rule.Opcode (length bytes)))
+
+unfoldable pub constant_at : Reader Instr
+constant_at bytes = do
+  b ← byte_at bytes
+  if b.0 == 0x41 then (signed_at 32 b.1 >>= λ z. Ok (instr.I32Const z.0, z.1))
+      else (if b.0 == 0x42 then (signed_at 64 b.1 >>= λ z. Ok (instr.I64Const z.0, z.1))
+      else Err (at rule.Opcode (length bytes)))
+
+unfoldable pub global_at : Reader GlobalVar
+global_at bytes = do
+  type ← type_at bytes
+  mutable ← mutable_at type.1
+  value ← constant_at mutable.1
+  rest ← fixed_at 0x0B value.1
+  Ok (record { ty = type.0; mutable = mutable.0; value = value.0 }, rest)
+
+unfoldable pub segment_at : Reader Segment
+segment_at bytes = do
+  memory ← index_at bytes
+  opcode ← fixed_at 0x41 memory.1
+  offset ← signed_at 32 opcode
+  ended ← fixed_at 0x0B offset.1
+  text ← text_at ended
+  Ok (record { memory = memory.0; offset = offset.0; bytes = text.0 }, text.1)
+
+unfoldable pub locals_at : Reader LocalRun
+locals_at bytes = do
+  count ← index_at bytes
+  type ← type_at count.1
+  Ok (record { count = count.0; ty = type.0 }, type.1)
+
+-- ---- instructions
+
+abbrev pub bare_instr : Bare → Instr
+bare_instr bare.Unreachable = instr.Unreachable
+bare_instr bare.Nop = instr.Nop
+bare_instr bare.Else = instr.Else
+bare_instr bare.End = instr.End
+bare_instr bare.Return = instr.Return
+bare_instr bare.Drop = instr.Drop
+bare_instr bare.Select = instr.Select
+bare_instr (bare.Test t) = instr.Test t
+bare_instr (bare.Compare t op) = instr.Compare t op
+bare_instr (bare.Unary t op) = instr.Unary t op
+bare_instr (bare.Binary t op) = instr.Binary t op
+bare_instr (bare.Convert op) = instr.Convert op
+
+abbrev pub opening_instr : Opening → Option ValType → Instr
+opening_instr opening.Block t = instr.Block t
+opening_instr opening.Loop t = instr.Loop t
+opening_instr opening.If t = instr.If t
+
+abbrev pub indexed_instr : Indexed → ℕ → Instr
+indexed_instr indexed.Br n = instr.Br n
+indexed_instr indexed.BrIf n = instr.BrIf n
+indexed_instr indexed.Call n = instr.Call n
+indexed_instr indexed.LocalGet n = instr.LocalGet n
+indexed_instr indexed.LocalSet n = instr.LocalSet n
+indexed_instr indexed.LocalTee n = instr.LocalTee n
+indexed_instr indexed.GlobalGet n = instr.GlobalGet n
+indexed_instr indexed.GlobalSet n = instr.GlobalSet n
+
+-- what stands behind an opcode
+unfoldable pub form_of : ℕ → Form
+form_of opcode = slice_index_or FORMS opcode form.Unknown
+
+unfoldable pub block_type_at : Reader (Option ValType)
+block_type_at bytes = do
+  b ← byte_at bytes
+  if b.0 == 0x40 then Ok (None, b.1) else (type_at bytes >>= λ t. Ok (Some t.0, t.1))
+
+unfoldable pub place_at : Reader MemArg
+place_at bytes = do
+  align ← index_at bytes
+  offset ← index_at align.1
+  Ok (record { align = align.0; offset = offset.0 }, offset.1)
+
+-- what is left of an instruction that began where start bytes were left
+abbrev pub rest_at : ℕ → Form → Reader Instr
+rest_at start form.Unknown bytes = Err (at rule.Opcode start)
+rest_at start (form.Bare f) bytes = Ok (bare_instr f, bytes)
+rest_at start (form.Opening f) bytes = block_type_at bytes >>= λ t. Ok (opening_instr f t.0, t.1)
+rest_at start (form.Indexed f) bytes = index_at bytes >>= λ n. Ok (indexed_instr f n.0, n.1)
+rest_at start (form.Load op) bytes = place_at bytes >>= λ p. Ok (instr.Load op p.0, p.1)
+rest_at start (form.Store op) bytes = place_at bytes >>= λ p. Ok (instr.Store op p.0, p.1)
+rest_at start form.BrTable bytes = vector_at index_at bytes >>= λ labels. index_at labels.1 >>= λ other. Ok (instr.BrTable labels.0 other.0, other.1)
+rest_at start form.MemorySize bytes = fixed_at 0x00 bytes >>= λ rest. Ok (instr.MemorySize, rest)
+rest_at start form.I32Const bytes = signed_at 32 bytes >>= λ z. Ok (instr.I32Const z.0, z.1)
+rest_at start form.I64Const bytes = signed_at 64 bytes >>= λ z. Ok (instr.I64Const z.0, z.1)
+
+unfoldable pub instruction_at : Reader Instr
+instruction_at bytes = do
+  opcode ← byte_at bytes
+  rest_at (length bytes) (form_of opcode.0) opcode.1
+
+-- ---- code
+
+-- Opens or ends sequences as the instruction does that began where start bytes are left: whether it ends the
+-- function, and the sequences that are open after it, innermost first.
+abbrev pub follow_at : ℕ → List Bool → Instr → Result (Bool × List Bool) Fault
+follow_at start arms (instr.Block t) = Ok (false, false ∷ arms)
+follow_at start arms (instr.Loop t) = Ok (false, false ∷ arms)
+follow_at start arms (instr.If t) = Ok (false, true ∷ arms)
+follow_at start (true ∷ arms) instr.Else = Ok (false, false ∷ arms)
+follow_at start _ instr.Else = Err (at rule.Opcode start)
+follow_at start [] instr.End = Ok (true, [])
+follow_at start (arm ∷ arms) instr.End = Ok (false, arms)
+follow_at start arms _ = Ok (false, arms)
+
+-- at most so many instructions, up to the end of the function
+unfoldable pub code_from : ℕ → List Bool → Reader (List Instr)
+code_from zero arms bytes = Err (at rule.Size 0)
+code_from (suc n) arms bytes = instruction_at bytes >>= λ i. follow_at (length bytes) arms i.0 >>= λ s.
+    if s.0 then Ok (i.0 ∷ [], i.1) else (code_from n s.1 i.1 >>= λ more. Ok (i.0 ∷ more.0, more.1))
+
+unfoldable pub expression_at : Reader (List Instr)
+expression_at bytes = code_from (length bytes) [] bytes
+
+unfoldable pub body_at : Reader FuncBody
+body_at bytes = do
+  locals ← vector_at locals_at bytes
+  code ← expression_at locals.1
+  Ok (record { locals = locals.0; code = code.0 }, code.1)
+
+-- ---- sections
+
+unfoldable pub custom_at : Reader Custom
+custom_at bytes = do
+  n ← name_at bytes
+  Ok (record { name = n.0; bytes = n.1 }, [])
+
+abbrev pub with_custom : Custom → Found → Found
+with_custom custom found =
+    if is_text custom.name cmajor then record { others = found.others; named = found.named ++ custom ∷ [] }
+    else record { others = found.others ++ custom ∷ []; named = found.named }
+
+-- the bytes behind this id, if it is the first byte
+unfoldable pub behind_id : ℕ → List ℕ → Option (List ℕ)
+behind_id id [] = None
+behind_id id (b ∷ bytes) = if b == id then Some bytes else None
+
+abbrev pub choice : {A B : Type 0} → Option A → B → (A → B) → B
+choice None other f = other
+choice (Some x) other f = f x
+
+-- at most so many custom sections at the front
+unfoldable pub customs_at : ℕ → Found → Reader Found
+customs_at zero found bytes = Ok (found, bytes)
+customs_at (suc n) found bytes =
+    choice (behind_id 0 bytes) (Ok (found, bytes)) (λ contents. filled_at custom_at contents >>= λ c. customs_at n (with_custom c.0 found) c.1)
+
+-- what the section with this id lists, if the bytes begin with it
+abbrev pub listed_at : {A : Type 0} → Reader A → ℕ → Found → Reader (List A × Found)
+listed_at f id found bytes =
+    choice (behind_id id bytes) (Ok (([], found), bytes)) (λ contents. filled_at (vector_at f) contents >>= λ x. Ok ((x.0, found), x.1))
+
+unfoldable pub section_at : {A : Type 0} → Reader A → ℕ → Found → Reader (List A × Found)
+section_at f id found bytes = customs_at (length bytes) found bytes >>= λ c. listed_at f id c.0 c.1
+
+-- ---- modules
+
+-- the bytes after the one of the header that is due
+unfoldable pub header_byte_at : ℕ → List ℕ → Result (List ℕ) Fault
+header_byte_at due [] = Err (at rule.Header 0)
+header_byte_at due (b ∷ bytes) = if b == due then Ok bytes else Err (at rule.Header (suc (length bytes)))
+
+unfoldable pub header_at : List ℕ → List ℕ → Result (List ℕ) Fault
+header_at [] bytes = Ok bytes
+header_at (due ∷ dues) bytes = header_byte_at due bytes >>= λ rest. header_at dues rest
+
+unfoldable pub head_at : Found → Reader (FirstParts × Found)
+head_at found bytes = do
+  types ← section_at function_type_at 1 found bytes
+  imports ← section_at import_at 2 types.0.1 types.1
+  functions ← section_at index_at 3 imports.0.1 imports.1
+  memory ← section_at memory_at 5 functions.0.1 functions.1
+  Ok ((record { types = types.0.0; imports = imports.0.0; functions = functions.0.0; memory = memory.0.0 }, memory.0.1), memory.1)
+
+unfoldable pub tail_at : Found → Reader (LastParts × Found)
+tail_at found bytes = do
+  globals ← section_at global_at 6 found bytes
+  exports ← section_at export_at 7 globals.0.1 globals.1
+  codes ← section_at (filled_at body_at) 10 exports.0.1 exports.1
+  segments ← section_at segment_at 11 codes.0.1 codes.1
+  Ok ((record { globals = globals.0.0; exports = exports.0.0; codes = codes.0.0; segments = segments.0.0 }, segments.0.1), segments.1)
+
+abbrev pub whole_of : FirstParts → LastParts → Found → Module
+whole_of head tail found = record {
+  types = head.types;
+  imports = head.imports;
+  functions = head.functions;
+  memory = head.memory;
+  globals = tail.globals;
+  exports = tail.exports;
+  codes = tail.codes;
+  segments = tail.segments;
+  customs = found.others ++ found.named;
+}
+
+unfoldable pub module_at : List ℕ → Result Module Fault
+module_at bytes = do
+  rest ← header_at header bytes
+  head ← head_at (record { others = []; named = [] }) rest
+  tail ← tail_at head.0.1 head.1
+  last ← customs_at (length tail.1) tail.0.1 tail.1
+  if length last.1 == 0 then (if length head.0.0.functions == length tail.0.0.codes then Ok (whole_of head.0.0 tail.0.0 last.0) else Err (at rule.Size 0))
+      else Err (at rule.Section (length last.1))

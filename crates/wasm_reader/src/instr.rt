@@ -1,0 +1,89 @@
+ghost use Rattle.std.specs.Prelude.{◌≡◌};
+ghost use Rattle.wasm_reader.specs.Reading.{Gives, form_of, block_type_at, place_at, instruction_at};
+
+use crate::fault::{ReadFail, unknown};
+use crate::form::Form;
+use crate::number::{byte, fixed, index, signed32, signed64};
+use crate::opcodes::FORMS;
+use crate::part::{Filling, Part};
+use cm_base::Items;
+use std::alloc::Global;
+use wasm_tree::{Instr, MemArg, ValType};
+
+/// What stands behind the opcode.
+#[tactic(auto, unfolding(crate::specs::Reading::form_of))]
+fn form(opcode: u8) -> Form
+    ensures { result ≡ form_of opcode }
+{
+    let at = opcode as usize;
+    if at < FORMS.len() {
+        FORMS[at]
+    } else {
+        Form::Unknown
+    }
+}
+
+/// The result of a sequence, if it has one.
+#[tactic(auto, unfolding(crate::specs::Reading::block_type_at))]
+fn block_type(alloc: Global, bytes: &[u8]) -> Result<(Option<ValType>, &[u8]), ReadFail>
+    ensures { Gives (λ x. (x.0, x.1.now)) result (block_type_at bytes.now) }
+{
+    let (code, rest) = byte(bytes)?;
+    if code == 0x40 {
+        return Ok((None, rest));
+    }
+    let (ty, rest) = ValType::read(alloc, bytes)?;
+    Ok((Some(ty), rest))
+}
+
+/// An alignment and an offset.
+#[tactic(auto, unfolding(crate::specs::Reading::place_at))]
+fn place(bytes: &[u8]) -> Result<(MemArg, &[u8]), ReadFail>
+    ensures { Gives (λ x. (x.0, x.1.now)) result (place_at bytes.now) }
+{
+    let (align, rest) = index(bytes)?;
+    let (offset, rest) = index(rest)?;
+    Ok((MemArg { align, offset }, rest))
+}
+
+/// An instruction.
+#[tactic(auto, unfolding(crate::specs::Reading::instruction_at))]
+pub fn instr(alloc: Global, bytes: &[u8]) -> Result<(Instr, &[u8]), ReadFail>
+    ensures { Gives (λ x. (x.0, x.1.now)) result (instruction_at bytes.now) }
+{
+    let (opcode, rest) = byte(bytes)?;
+    match form(opcode) {
+        Form::Unknown => Err(unknown(bytes)),
+        Form::Bare(form) => Ok((form.instr(), rest)),
+        Form::Opening(form) => {
+            let (ty, rest) = block_type(alloc, rest)?;
+            Ok((form.instr(ty), rest))
+        }
+        Form::Indexed(form) => {
+            let (number, rest) = index(rest)?;
+            Ok((form.instr(number), rest))
+        }
+        Form::Load(op) => {
+            let (place, rest) = place(rest)?;
+            Ok((Instr::Load(op, place), rest))
+        }
+        Form::Store(op) => {
+            let (place, rest) = place(rest)?;
+            Ok((Instr::Store(op, place), rest))
+        }
+        Form::BrTable => {
+            let (labels, rest) = Items::<u32>::fill(alloc, rest)?;
+            let (other, rest) = index(rest)?;
+            Ok((Instr::BrTable(labels, other), rest))
+        }
+        Form::MemorySize => Ok((Instr::MemorySize, fixed(0x00, rest)?)),
+        Form::I32Const => {
+            let (value, rest) = signed32(rest)?;
+            Ok((Instr::I32Const(value), rest))
+        }
+        Form::I64Const => {
+            let (value, rest) = signed64(rest)?;
+            Ok((Instr::I64Const(value), rest))
+        }
+    }
+}

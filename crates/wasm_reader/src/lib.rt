@@ -1,0 +1,24 @@
+//! Reads a module from bytes that anyone may have written. The layers above use the contract of `read_module`
+//! alone: it gives the module that the bytes spell (`Spelled` of wasm_tree), refuses exactly where none is
+//! spelled, and names the first rule that fails and the byte at which it does (`specs/Fault`). Inside, each
+//! reader is proved equal to a reading function on lists (`specs/Reading`), and laws about these functions
+//! tie them to both definitions. No list is reserved by a count that the bytes state, open blocks are counted
+//! without recursion, and each byte is looked at once, but for names, which are tested for UTF-8 first.
+#![tactic(auto)]
+
+mod code;
+mod entries;
+mod fault;
+mod form;
+mod instr;
+mod number;
+mod opcodes;
+mod part;
+mod reader;
+mod section;
+mod text;
+
+pub use reader::read_module;
+
+#[cfg(test)]
+mod tests;

@@ -1,0 +1,6 @@
+pub mod Source
+pub mod Target
+pub mod Tasks
+pub mod ThroughKeeps
+pub mod ThroughValid
+pub mod ThroughBuild

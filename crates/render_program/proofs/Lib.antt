@@ -1,0 +1,3 @@
+pub mod FileLemmas
+pub mod StageLemmas
+pub mod EndLemmas

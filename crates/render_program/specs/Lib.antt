@@ -1,0 +1,6 @@
+pub mod Compile
+pub mod Due
+pub mod Files
+pub mod Stages
+pub mod Statuses
+pub mod Words

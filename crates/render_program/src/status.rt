@@ -1,0 +1,70 @@
+use cm_base::{FormFault, Refused};
+use wasm_tree::ModuleRefused;
+
+/// A file that a command reads. Sources count from 1, in the order of the manifest.
+#[derive(Clone, Copy, Debug, PartialEq, Eq)]
+pub enum FileRef {
+    Manifest,
+    Source(u32),
+    State,
+    Input,
+    Module,
+}
+
+/// The part of a run in which a bound is spent or a module traps.
+#[derive(Clone, Copy, Debug, PartialEq, Eq)]
+pub enum At {
+    Init,
+    Frame(u32),
+}
+
+/// What can't be written: the output, or the command's file.
+#[derive(Clone, Copy, Debug, PartialEq, Eq)]
+pub enum Target {
+    Out,
+    File,
+}
+
+/// How a command ended: docs/COMMANDS.md, "Statuses".
+#[derive(Debug, Drop)]
+pub enum Status {
+    Ok,
+    Usage,
+    Absent(FileRef),
+    ReadFault(FileRef),
+    /// The file, and how many bytes were read.
+    TooBig(FileRef, u64),
+    Refused(Refused),
+    StateRefused(FormFault),
+    InputRefused(FormFault),
+    ModuleRefused(ModuleRefused),
+    TurnsSpent(At),
+    StepsSpent(At),
+    Trapped(At),
+    WriteFault(Target),
+    ListenerFault(u32),
+    NoMemory,
+}
+
+impl Status {
+    /// The number that the program exits with.
+    pub fn number(&self) -> u8 {
+        match self {
+            Status::Ok => 0,
+            Status::Usage => 1,
+            Status::Absent(_) => 2,
+            Status::ReadFault(_) => 3,
+            Status::TooBig(_, _) => 4,
+            Status::Refused(_) => 5,
+            Status::StateRefused(_) => 6,
+            Status::InputRefused(_) => 7,
+            Status::ModuleRefused(_) => 8,
+            Status::TurnsSpent(_) => 9,
+            Status::StepsSpent(_) => 10,
+            Status::Trapped(_) => 11,
+            Status::WriteFault(_) => 12,
+            Status::ListenerFault(_) => 13,
+            Status::NoMemory => 14,
+        }
+    }
+}

@@ -19,7 +19,7 @@ use Rattle.wasm_tree.specs.declared.module.Segment.{Segment}
 use Rattle.wasm_tree.specs.declared.module.Custom.{Custom}
 use Rattle.wasm_tree.specs.declared.instr.Instr.{Instr}
 use Rattle.wasm_tree.specs.declared.instr.Instr.TheVariants as instr
-use Rattle.wasm_tree.specs.Spelled.{Joined, Is, Begins, Each, Vector, Index, Signed, Name, Type_of_value, Type_of_function, Memory, Imported, Exported, Global, Data, Locals, Body, Expression, Instruction, Custom_contents, Raw, Section, ids, InOrder, Lists, header, type_byte, result_byte, mutable_byte}
+use Rattle.wasm_tree.specs.Spelled.{Joined, Is, Begins, Each, Vector, Index, Signed, Name, Type_of_value, Type_of_function, Memory, Imported, Exported, Global, Data, Locals, LocalRuns, count_of_locals, most_locals, Body, Expression, most_open, Instruction, Custom_contents, Raw, Section, ids, InOrder, Lists, header, type_byte, result_byte, mutable_byte}
 
 -- ---- parts and sequences
 
@@ -109,8 +109,20 @@ NoGlobal = InTurn NoType Type_of_value (λ _. InTurn (OtherByte (λ b. (m : Bool
 abbrev pub NoData : ModuleRule → ℕ → List ℕ → Type 0
 NoData = InTurn NoIndex Index (λ _. Behind 0x41 (InTurn (NoNumber (Signed 32)) (Signed 32) (λ _. Behind 0x0B NoText)))
 
-abbrev pub NoLocals : ModuleRule → ℕ → List ℕ → Type 0
-NoLocals = InTurn NoIndex Index (λ _. NoType)
+-- `Limit`: a number of locals begins here that are more than a function may declare, together with those before
+abbrev pub ManyLocals : ℕ → ModuleRule → ℕ → List ℕ → Type 0
+ManyLocals before r left bytes =
+    (r ≡ rule.Limit) × (left ≡ length bytes) × (n : ℕ) × (front : List ℕ) × (back : List ℕ) × (bytes ≡ front ++ back) × Index n front × (most_locals < before + n)
+
+-- the number of locals of a run fails, or their type, behind so many locals
+abbrev pub NoLocals : ℕ → ModuleRule → ℕ → List ℕ → Type 0
+NoLocals before r left bytes =
+    ManyLocals before r left bytes ⊎ InTurn NoIndex Index (λ n r left back. (before + n ≤ most_locals) × NoType r left back) r left bytes
+
+-- the number of runs fails, or after fewer runs than it says one fails
+abbrev pub NoLocalRuns : ModuleRule → ℕ → List ℕ → Type 0
+NoLocalRuns = InTurn NoIndex Index (λ n r left bytes.
+    (runs : List LocalRun) × (length runs < n) × (count_of_locals runs ≤ most_locals) × Joined (Each Locals runs) (NoLocals (count_of_locals runs) r left) bytes)
 
 -- ---- instructions and code
 
@@ -155,9 +167,9 @@ IsOpen (arm ∷ arms) (instr.End ∷ code) after = IsOpen arms code after
 IsOpen [] (instr.Else ∷ code) after = ⊥
 IsOpen (false ∷ arms) (instr.Else ∷ code) after = ⊥
 IsOpen (true ∷ arms) (instr.Else ∷ code) after = IsOpen (false ∷ arms) code after
-IsOpen arms (instr.Block result ∷ code) after = IsOpen (false ∷ arms) code after
-IsOpen arms (instr.Loop result ∷ code) after = IsOpen (false ∷ arms) code after
-IsOpen arms (instr.If result ∷ code) after = IsOpen (true ∷ arms) code after
+IsOpen arms (instr.Block result ∷ code) after = (length arms < most_open) × IsOpen (false ∷ arms) code after
+IsOpen arms (instr.Loop result ∷ code) after = (length arms < most_open) × IsOpen (false ∷ arms) code after
+IsOpen arms (instr.If result ∷ code) after = (length arms < most_open) × IsOpen (true ∷ arms) code after
 IsOpen arms (_ ∷ code) after = IsOpen arms code after
 
 -- `Opcode`: an `else` stands outside the first arm of an `if`
@@ -165,16 +177,26 @@ abbrev pub StrayElse : List Bool → ModuleRule → ℕ → List ℕ → Type 0
 StrayElse (true ∷ arms) r left bytes = ⊥
 StrayElse _ r left bytes = (r ≡ rule.Opcode) × (left ≡ length bytes) × (rest : List ℕ) × (bytes ≡ 0x05 ∷ rest)
 
+-- a sequence is opened, by `block`, `loop` or `if`, inside as many as may be open
+abbrev pub IsTooDeep : List Bool → List ℕ → Type 0
+IsTooDeep arms [] = ⊥
+IsTooDeep arms (b ∷ bytes) = (most_open ≤ length arms) × ((b ≡ 0x02) ⊎ ((b ≡ 0x03) ⊎ (b ≡ 0x04)))
+
+-- `Limit`: sequences stand too deep inside one another
+abbrev pub TooDeep : List Bool → ModuleRule → ℕ → List ℕ → Type 0
+TooDeep arms r left bytes = (r ≡ rule.Limit) × (left ≡ length bytes) × IsTooDeep arms bytes
+
 -- after instructions that don't end the function, one fails
 abbrev pub NoExpression : ModuleRule → ℕ → List ℕ → Type 0
 NoExpression r left bytes =
-    (code : List Instr) × (arms : List Bool) × IsOpen [] code arms × Joined (Each Instruction code) (λ back. NoInstruction r left back ⊎ StrayElse arms r left back) bytes
+    (code : List Instr) × (arms : List Bool) × IsOpen [] code arms
+    × Joined (Each Instruction code) (λ back. TooDeep arms r left back ⊎ ((IsTooDeep arms back → ⊥) × (NoInstruction r left back ⊎ StrayElse arms r left back))) bytes
 
 abbrev pub BodyContents : FuncBody → List ℕ → Type 0
-BodyContents body = Joined (Vector Locals body.locals) (Expression body.code)
+BodyContents body = Joined (LocalRuns body.locals) (Expression body.code)
 
 abbrev pub NoBody : ModuleRule → ℕ → List ℕ → Type 0
-NoBody = NoneSized BodyContents (InTurn (NoVector Locals NoLocals) (Vector Locals) (λ _. NoExpression))
+NoBody = NoneSized BodyContents (InTurn NoLocalRuns LocalRuns (λ _. NoExpression))
 
 -- ---- sections and modules
 

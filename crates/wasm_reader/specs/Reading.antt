@@ -23,7 +23,7 @@ use Rattle.wasm_tree.specs.declared.instr.Instr.TheVariants as instr
 use Rattle.wasm_tree.specs.declared.module.FuncBody.{FuncBody}
 use Rattle.wasm_tree.specs.declared.module.Custom.{Custom}
 use Rattle.wasm_tree.specs.declared.module.Module.{Module}
-use Rattle.wasm_tree.specs.Spelled.{is_text, cmajor, header}
+use Rattle.wasm_tree.specs.Spelled.{is_text, cmajor, header, most_open, most_locals}
 use Rattle.wasm_reader.specs.declared.section.Found.{Found}
 use Rattle.wasm_reader.specs.declared.reader.FirstParts.{FirstParts}
 use Rattle.wasm_reader.specs.declared.reader.LastParts.{LastParts}
@@ -213,11 +213,22 @@ segment_at bytes = do
   text ← text_at ended
   Ok (record { memory = memory.0; offset = offset.0; bytes = text.0 }, text.1)
 
-unfoldable pub locals_at : Reader LocalRun
-locals_at bytes = do
+-- a run of locals, of which a function has so many before
+unfoldable pub locals_at : ℕ → Reader LocalRun
+locals_at before bytes = do
   count ← index_at bytes
-  type ← type_at count.1
-  Ok (record { count = count.0; ty = type.0 }, type.1)
+  if nat_lt most_locals (before + count.0) then Err (at rule.Limit (length bytes))
+      else (type_at count.1 >>= λ type. Ok (record { count = count.0; ty = type.0 }, type.1))
+
+-- so many runs, behind so many locals
+unfoldable pub runs_from : ℕ → ℕ → Reader (List LocalRun)
+runs_from zero before bytes = Ok ([], bytes)
+runs_from (suc n) before bytes = locals_at before bytes >>= λ run. runs_from n (before + run.0.count) run.1 >>= λ others. Ok (run.0 ∷ others.0, others.1)
+
+unfoldable pub local_runs_at : Reader (List LocalRun)
+local_runs_at bytes = do
+  count ← index_at bytes
+  runs_from count.0 0 count.1
 
 -- ---- instructions
 
@@ -297,10 +308,19 @@ follow_at start [] instr.End = Ok (true, [])
 follow_at start (arm ∷ arms) instr.End = Ok (false, arms)
 follow_at start arms _ = Ok (false, arms)
 
+-- whether the first byte is the opcode of `block`, `loop` or `if`
+unfoldable pub opens : List ℕ → Bool
+opens [] = false
+opens (b ∷ bytes) = nat_le 0x02 b && nat_le b 0x04
+
+-- A sequence is opened only inside fewer than may be open.
+unfoldable pub room_at : List Bool → List ℕ → Result Unit Fault
+room_at arms bytes = if nat_le most_open (length arms) && opens bytes then Err (at rule.Limit (length bytes)) else Ok tt
+
 -- at most so many instructions, up to the end of the function
 unfoldable pub code_from : ℕ → List Bool → Reader (List Instr)
 code_from zero arms bytes = Err (at rule.Size 0)
-code_from (suc n) arms bytes = instruction_at bytes >>= λ i. follow_at (length bytes) arms i.0 >>= λ s.
+code_from (suc n) arms bytes = room_at arms bytes >>= λ _. instruction_at bytes >>= λ i. follow_at (length bytes) arms i.0 >>= λ s.
     if s.0 then Ok (i.0 ∷ [], i.1) else (code_from n s.1 i.1 >>= λ more. Ok (i.0 ∷ more.0, more.1))
 
 unfoldable pub expression_at : Reader (List Instr)
@@ -308,7 +328,7 @@ expression_at bytes = code_from (length bytes) [] bytes
 
 unfoldable pub body_at : Reader FuncBody
 body_at bytes = do
-  locals ← vector_at locals_at bytes
+  locals ← local_runs_at bytes
   code ← expression_at locals.1
   Ok (record { locals = locals.0; code = code.0 }, code.1)
 

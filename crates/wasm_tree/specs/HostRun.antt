@@ -220,21 +220,21 @@ pub record Block : Type 0 where
   pub count : ℕ
 
 -- what a run keeps between its parts
-pub record Session : Type 0 where
+pub record Instance : Type 0 where
   pub globals : List ℕ
   pub memory : List ℕ
   pub current : List (List ℤ)
   pub block : Option Block
   pub trace : List Item
 
-abbrev pub went : Session → List ℕ → List ℕ → List Item → Session
-went session globals memory trace = record session { globals = globals; memory = memory; block = None; trace = trace }
+abbrev pub went : Instance → List ℕ → List ℕ → List Item → Instance
+went instance globals memory trace = record instance { globals = globals; memory = memory; block = None; trace = trace }
 
-abbrev pub after_call : Session → Heard → (List ℕ → List ℕ → List Item → Left Session) → Left Session
-after_call session (Returned globals memory told) go = go globals memory told
-after_call session (Marked memory next told) go = Traps (record session { trace = told })
-after_call session (Exhausted told) go = Spent (record session { trace = told })
-after_call session (Failed told) go = Traps (record session { trace = told })
+abbrev pub after_call : Instance → Heard → (List ℕ → List ℕ → List Item → Left Instance) → Left Instance
+after_call instance (Returned globals memory told) go = go globals memory told
+after_call instance (Marked memory next told) go = Traps (record instance { trace = told })
+after_call instance (Exhausted told) go = Spent (record instance { trace = told })
+after_call instance (Failed told) go = Traps (record instance { trace = told })
 
 -- how many event inputs stand before the endpoint
 abbrev pub event_number : List Slot → ℕ → ℕ
@@ -249,86 +249,86 @@ abbrev pub write_event : List Slot → ℕ → List ℤ → List ℕ → List �
 write_event slots endpoint value memory = option_map_or (λ slot. write_slot slot 0 value memory) (slice_get slots endpoint) memory
 
 -- a frame of interface 1: one call, and then the outputs are read
-abbrev pub single_frame : Module → Section → ℕ → ℕ → Inputs → Session → Left Session
-single_frame m section steps frame inputs session =
-    after_call session
+abbrev pub single_frame : Module → Section → ℕ → ℕ → Inputs → Instance → Left Instance
+single_frame m section steps frame inputs instance =
+    after_call instance
     (heard section.slots false frame
-    (exec (funcs_of m) steps (call_of m (codes "frame") [] session.globals (write_inputs section.slots inputs session.current session.memory)))
-    session.trace)
-    (λ globals memory told. Goes (went session globals memory (told ++ item.Frame frame (outputs_at section.slots 0 memory) ∷ [])))
+    (exec (funcs_of m) steps (call_of m (codes "frame") [] instance.globals (write_inputs section.slots inputs instance.current instance.memory)))
+    instance.trace)
+    (λ globals memory told. Goes (went instance globals memory (told ++ item.Frame frame (outputs_at section.slots 0 memory) ∷ [])))
 
 -- the end of a call of `frames`, after its last frame: it belongs to that frame's part, and an event in it to the next frame
-abbrev pub block_end : Module → Section → ℕ → ℕ → Config → Session → Left Session
-block_end m section steps frame next session =
-    after_call session (heard section.slots false (frame + 1) (exec (funcs_of m) steps next) session.trace) (λ globals memory told. Goes (went session globals memory told))
+abbrev pub block_end : Module → Section → ℕ → ℕ → Config → Instance → Left Instance
+block_end m section steps frame next instance =
+    after_call instance (heard section.slots false (frame + 1) (exec (funcs_of m) steps next) instance.trace) (λ globals memory told. Goes (went instance globals memory told))
 
 -- the frame is told with the outputs at its entry; then the call waits for its next frame, or after the last one it ends
-abbrev pub marked : Module → Section → ℕ → ℕ → Block → Session → List ℕ → Config → List Item → Left Session
-marked m section steps frame block session memory next told =
-    let now = record session { trace = told ++ item.Frame frame (outputs_at section.slots block.told memory) ∷ [] } in
+abbrev pub marked : Module → Section → ℕ → ℕ → Block → Instance → List ℕ → Config → List Item → Left Instance
+marked m section steps frame block instance memory next told =
+    let now = record instance { trace = told ++ item.Frame frame (outputs_at section.slots block.told memory) ∷ [] } in
     if block.told + 1 == block.count then block_end m section steps frame next now
     else Goes (record now { block = Some (record { next = next; told = block.told + 1; count = block.count }) })
 
 -- a stretch of a call of `frames`, up to a mark. A call that ends before traps
-abbrev pub stretch : Module → Section → ℕ → ℕ → Block → Session → Heard → Left Session
-stretch m section steps frame block session (Returned globals memory told) = Traps (record session { trace = told })
-stretch m section steps frame block session (Marked memory next told) = marked m section steps frame block session memory next told
-stretch m section steps frame block session (Exhausted told) = Spent (record session { trace = told })
-stretch m section steps frame block session (Failed told) = Traps (record session { trace = told })
+abbrev pub stretch : Module → Section → ℕ → ℕ → Block → Instance → Heard → Left Instance
+stretch m section steps frame block instance (Returned globals memory told) = Traps (record instance { trace = told })
+stretch m section steps frame block instance (Marked memory next told) = marked m section steps frame block instance memory next told
+stretch m section steps frame block instance (Exhausted told) = Spent (record instance { trace = told })
+stretch m section steps frame block instance (Failed told) = Traps (record instance { trace = told })
 
 -- a new call of `frames` takes as many of the frames that follow as its block has room for
-abbrev pub new_block : Module → Section → ℕ → List Inputs → Session → Block
-new_block m section length_of_block coming session =
+abbrev pub new_block : Module → Section → ℕ → List Inputs → Instance → Block
+new_block m section length_of_block coming instance =
     let inputs = take length_of_block coming in
     record {
-      next = call_of m (codes "frames") (length inputs ∷ []) session.globals
-          (write_values section.slots session.current (write_block section.slots 0 inputs session.memory));
+      next = call_of m (codes "frames") (length inputs ∷ []) instance.globals
+          (write_values section.slots instance.current (write_block section.slots 0 inputs instance.memory));
       told = 0;
       count = length inputs;
     }
 
-abbrev pub block_frame : Module → Section → ℕ → ℕ → ℕ → List Inputs → Session → Left Session
-block_frame m section length_of_block steps frame coming session =
-    let block = unwrap_or session.block (new_block m section length_of_block coming session) in
-    stretch m section steps frame block session (heard section.slots true frame (exec (funcs_of m) steps block.next) session.trace)
+abbrev pub block_frame : Module → Section → ℕ → ℕ → ℕ → List Inputs → Instance → Left Instance
+block_frame m section length_of_block steps frame coming instance =
+    let block = unwrap_or instance.block (new_block m section length_of_block coming instance) in
+    stretch m section steps frame block instance (heard section.slots true frame (exec (funcs_of m) steps block.next) instance.trace)
 
-abbrev pub frame_part : Interface → Module → Section → ℕ → ℕ → Inputs → List Inputs → Session → Left Session
-frame_part Single m section steps frame inputs following session = single_frame m section steps frame inputs session
-frame_part (Blocks block) m section steps frame inputs following session = block_frame m section block steps frame (inputs ∷ following) session
+abbrev pub frame_part : Interface → Module → Section → ℕ → ℕ → Inputs → List Inputs → Instance → Left Instance
+frame_part Single m section steps frame inputs following instance = single_frame m section steps frame inputs instance
+frame_part (Blocks block) m section steps frame inputs following instance = block_frame m section block steps frame (inputs ∷ following) instance
 
 -- a part, with a budget of so many reductions for its call, or for each stretch of a call of `frames`
-abbrev pub module_part : Module → Section → ℕ → Part → List Inputs → Session → Left Session
-module_part m section steps Init following session =
-    after_call session
-    (heard section.slots false 0 (exec (funcs_of m) steps (call_of m (codes "init") [] session.globals session.memory)) session.trace)
-    (λ globals memory told. Goes (went session globals memory told))
-module_part m section steps (Send frame endpoint value inputs) following session =
-    after_call session
+abbrev pub module_part : Module → Section → ℕ → Part → List Inputs → Instance → Left Instance
+module_part m section steps Init following instance =
+    after_call instance
+    (heard section.slots false 0 (exec (funcs_of m) steps (call_of m (codes "init") [] instance.globals instance.memory)) instance.trace)
+    (λ globals memory told. Goes (went instance globals memory told))
+module_part m section steps (Send frame endpoint value inputs) following instance =
+    after_call instance
     (heard section.slots false frame
     (exec (funcs_of m) steps
-    (call_of m (event_name section.slots endpoint) [] session.globals
-    (write_event section.slots endpoint value (write_inputs section.slots inputs session.current session.memory))))
-    session.trace)
-    (λ globals memory told. Goes (went session globals memory told))
-module_part m section steps (Frame frame inputs) following session = frame_part section.interface m section steps frame inputs following session
+    (call_of m (event_name section.slots endpoint) [] instance.globals
+    (write_event section.slots endpoint value (write_inputs section.slots inputs instance.current instance.memory))))
+    instance.trace)
+    (λ globals memory told. Goes (went instance globals memory told))
+module_part m section steps (Frame frame inputs) following instance = frame_part section.interface m section steps frame inputs following instance
 
-abbrev pub module_player : Module → Section → ℕ → Player Session
+abbrev pub module_player : Module → Section → ℕ → Player Instance
 module_player m section steps =
     record {
-      set = λ endpoint value session. record session { current = slice_set session.current endpoint value };
+      set = λ endpoint value instance. record instance { current = slice_set instance.current endpoint value };
       perform = module_part m section steps;
-      told = λ session. session.trace;
+      told = λ instance. instance.trace;
     }
 
 -- the host's values start at zero
 abbrev pub zeros_of : List HostEnd → List (List ℤ)
 zeros_of ends = map (λ end. replicate (length end.shape) (pos 0)) ends
 
-abbrev pub first_session : Module → Section → Session
-first_session m section =
+abbrev pub first_instance : Module → Section → Instance
+first_instance m section =
     record { globals = first_globals m; memory = first_memory m; current = zeros_of (ends_of section); block = None; trace = [] }
 
 -- the run of the module over so many frames, with a budget of so many reductions
 abbrev pub host_run : Module → Section → List Saved → Script → ℕ → ℕ → Outcome
 host_run m section saved script frames steps =
-    play (module_player m section steps) (tasks_of (ends_of section) saved script frames) (first_session m section)
+    play (module_player m section steps) (tasks_of (ends_of section) saved script frames) (first_instance m section)

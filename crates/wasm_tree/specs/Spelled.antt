@@ -1,6 +1,6 @@
 -- Which bytes spell a module: the binary format of Core Specification 1.0, chapter 5, for the subset of
 -- docs/MODULE.md. A relation by cases on the module's parts; bytes have no position.
-use Rattle.std.specs.Prelude.{ℕ, ◌≡◌, ◌+◌, ◌-◌, ◌*◌, ◌^◌, ◌<◌, ◌≤◌, ◌⊎◌, List, [], ◌∷◌, ◌++◌, length, Contains, Option, Some, None, MatchOption, Bool, true, false, not, filter, codes, ℤ, pos, ◌+ℤ◌, ◌*ℤ◌, ◌==◌, if◌then◌else◌}
+use Rattle.std.specs.Prelude.{ℕ, ◌≡◌, ◌+◌, ◌-◌, ◌*◌, ◌^◌, ◌<◌, ◌≤◌, ◌⊎◌, List, [], ◌∷◌, ◌++◌, length, sum_by, Contains, Option, Some, None, MatchOption, Bool, true, false, not, filter, codes, ℤ, pos, ◌+ℤ◌, ◌*ℤ◌, ◌==◌, if◌then◌else◌}
 use Rattle.std.specs.Str.{IsUtf8}
 use Rattle.wasm_tree.specs.declared.module.ValType.{ValType}
 use Rattle.wasm_tree.specs.declared.module.ValType.TheVariants.{I32, I64}
@@ -148,6 +148,10 @@ IsConstant (instr.I32Const value) = Unit {0}
 IsConstant (instr.I64Const value) = Unit {0}
 IsConstant _ = ⊥
 
+-- how deep sequences may stand inside one another; the function's own doesn't count (this project's own limit)
+abbrev pub most_open : ℕ
+most_open = 4096
+
 -- The sequences that are open, innermost first, are ended one after another, and the function's own `End`
 -- is the last instruction. A true stands for the first arm of an `if`, which an `else` may end.
 abbrev pub IsClosed : List Bool → List Instr → Type 0
@@ -157,9 +161,9 @@ IsClosed (arm ∷ arms) (instr.End ∷ code) = IsClosed arms code
 IsClosed [] (instr.Else ∷ code) = ⊥
 IsClosed (false ∷ arms) (instr.Else ∷ code) = ⊥
 IsClosed (true ∷ arms) (instr.Else ∷ code) = IsClosed (false ∷ arms) code
-IsClosed arms (instr.Block result ∷ code) = IsClosed (false ∷ arms) code
-IsClosed arms (instr.Loop result ∷ code) = IsClosed (false ∷ arms) code
-IsClosed arms (instr.If result ∷ code) = IsClosed (true ∷ arms) code
+IsClosed arms (instr.Block result ∷ code) = (length arms < most_open) × IsClosed (false ∷ arms) code
+IsClosed arms (instr.Loop result ∷ code) = (length arms < most_open) × IsClosed (false ∷ arms) code
+IsClosed arms (instr.If result ∷ code) = (length arms < most_open) × IsClosed (true ∷ arms) code
 IsClosed arms (_ ∷ code) = IsClosed arms code
 
 -- the code of a function: whole sequences, and its own `End`
@@ -198,12 +202,24 @@ Data segment =
 abbrev pub Locals : LocalRun → List ℕ → Type 0
 Locals run = Joined (Index run.count) (Type_of_value run.ty)
 
+-- how many locals a function may declare (this project's own limit)
+abbrev pub most_locals : ℕ
+most_locals = 65536
+
+abbrev pub count_of_locals : List LocalRun → ℕ
+count_of_locals runs = sum_by (λ run. run.count) runs
+
+-- the locals of a function
+pub record LocalRuns (runs : List LocalRun) (bytes : List ℕ) : Type 0 where
+  pub spelled : Vector Locals runs bytes
+  pub few : count_of_locals runs ≤ most_locals
+
 -- a size, and as many bytes, which P allows
 abbrev pub Sized : (List ℕ → Type 0) → List ℕ → Type 0
 Sized P bytes = (contents : List ℕ) × Text contents bytes × P contents
 
 abbrev pub Body : FuncBody → List ℕ → Type 0
-Body body = Sized (Joined (Vector Locals body.locals) (Expression body.code))
+Body body = Sized (Joined (LocalRuns body.locals) (Expression body.code))
 
 -- a section as it stands: its id, and its contents behind their size
 pub record Raw : Type 0 where

@@ -1,6 +1,6 @@
 -- When a module is valid: Core Specification 1.0, chapter 3, for the subset of docs/MODULE.md, with its
 -- limits, no function that calls itself through a chain of calls, and the interface to the host.
-use Rattle.std.specs.Prelude.{ℕ, zero, suc, ◌≡◌, ◌+◌, ◌*◌, ◌^◌, ◌<◌, ◌≤◌, List, [], ◌∷◌, ◌++◌, length, map, max, reverse, replicate, sum_by, filter, slice_get, Contains, Option, Some, None, IfSome, unwrap_or, true, false, ◌&&◌, codes}
+use Rattle.std.specs.Prelude.{ℕ, zero, suc, ◌≡◌, ◌+◌, ◌*◌, ◌^◌, ◌<◌, ◌≤◌, List, [], ◌∷◌, ◌++◌, length, map, max, reverse, replicate, filter, slice_get, Contains, Option, Some, None, IfSome, unwrap_or, true, false, ◌&&◌, codes}
 use Rattle.std.specs.List.{AllByRecursion, flat_map}
 use Rattle.std.specs.Int.{w32, cast_unsigned}
 use Rattle.std.specs.Fmt.{decimal}
@@ -28,6 +28,7 @@ use Rattle.wasm_tree.specs.Meaning.{load_type, load_size, store_type, store_size
 use Rattle.wasm_tree.specs.Reduce.{Seq, Nil, Plain, InBlock, InLoop, InIf, pieces, page_size}
 use Rattle.wasm_tree.specs.declared.interface.Interface.{Interface}
 use Rattle.wasm_tree.specs.declared.interface.Interface.TheVariants.{Single, Blocks}
+use Rattle.wasm_tree.specs.Spelled.{most_open, most_locals, count_of_locals}
 use Rattle.wasm_tree.specs.Section.{Section, IsSection, AreWithin, ends_of}
 
 -- ---- typing of instructions (3.3). Lists of operand types have the last operand first
@@ -149,8 +150,8 @@ pub record IsBody (m : Module) (type : FuncType) (body : FuncBody) : Type 0 wher
   pub tree : Seq
   pub spells : pieces body.code ≡ record { arm = false; rest = tree } ∷ []
   pub typed : Typed (record { functions = function_types m; locals = type.params ++ declared_locals body.locals; globals = m.globals; results = type.results }) (reverse type.results ∷ []) tree [] (reverse type.results)
-  pub few_locals : sum_by (λ run. run.count) body.locals ≤ 65536
-  pub flat : nesting tree ≤ 4096
+  pub few_locals : count_of_locals body.locals ≤ most_locals
+  pub flat : nesting tree ≤ most_open
 
 -- each function has a body of its type
 abbrev pub AreBodies : Module → List ℕ → List FuncBody → Type 0

@@ -1,6 +1,6 @@
 -- The shortest spelling of a module: shortest numbers, sections in the order of their ids, none for an empty
 -- list, and the custom sections at the end. Core Specification 1.0, chapter 5.
-use Rattle.std.specs.Prelude.{ℕ, ◌≡◌, ◌+◌, ◌-◌, ◌/◌, ◌%◌, ◌<◌, ◌^◌, Bool, nat_lt, List, [], ◌∷◌, ◌++◌, length, All, Option, Some, None, ℤ, pos, negsuc, if◌then◌else◌, zero, suc}
+use Rattle.std.specs.Prelude.{ℕ, ◌≡◌, ◌+◌, ◌-◌, ◌/◌, ◌%◌, ◌<◌, ◌≤◌, ◌^◌, Bool, nat_lt, List, [], ◌∷◌, ◌++◌, length, All, Option, Some, None, ℤ, pos, negsuc, if◌then◌else◌, zero, suc}
 use Rattle.std.specs.List.{flat_map}
 use Rattle.wasm_tree.specs.declared.module.ValType.{ValType}
 use Rattle.wasm_tree.specs.declared.module.FuncType.{FuncType}
@@ -21,7 +21,7 @@ use Rattle.wasm_tree.specs.declared.instr.MemArg.{MemArg}
 use Rattle.wasm_tree.specs.declared.instr.Instr.{Instr}
 use Rattle.wasm_tree.specs.declared.instr.Instr.TheVariants as instr
 use Rattle.wasm_tree.specs.Opcode.{load_opcode, store_opcode, test_opcode, compare_opcode, unary_opcode, binary_opcode, convert_opcode}
-use Rattle.wasm_tree.specs.Spelled.{type_byte, result_byte, mutable_byte, header, IsConstant, IsClosed, sorted_customs}
+use Rattle.wasm_tree.specs.Spelled.{type_byte, result_byte, mutable_byte, header, IsConstant, IsClosed, count_of_locals, most_locals, sorted_customs}
 
 -- ---- values (5.2)
 
@@ -186,6 +186,7 @@ pub record IsWritable (m : Module) : Type 0 where
   pub segments : length (vector_bytes segment_bytes m.segments) < 2 ^ 32
   pub customs : All (λ custom. length (custom_contents custom) < 2 ^ 32) m.customs
   pub constant : All (λ global. IsConstant global.value) m.globals
+  pub locals : All (λ body. count_of_locals body.locals ≤ most_locals) m.codes
   pub closed : All (λ body. IsClosed [] body.code) m.codes
   pub sorted : m.customs ≡ sorted_customs m.customs
   pub bodies : length m.functions ≡ length m.codes

@@ -6,12 +6,6 @@ use Rattle.cm_base.specs.declared.failure.Fail.{Fail}
 use Rattle.cm_base.specs.declared.failure.Fail.TheVariants as fail
 use Rattle.cm_base.specs.declared.failure.Refused.{Refused}
 
--- a fact for the value of an `Ok`; an `Err` comes for want of memory alone
-abbrev pub IsOkUnlessMemory : {X : Type 0} → Result X Fail → (X → Type 0) → Type 0
-IsOkUnlessMemory (Ok x) P = P x
-IsOkUnlessMemory (Err (fail.Refused refused)) P = ⊥
-IsOkUnlessMemory (Err fail.NoMemory) P = Unit {0}
-
 -- a fact for a refusal
 abbrev pub IfRefused : {X : Type 0} → Result X Fail → (Refused → Type 0) → Type 0
 IfRefused (Ok x) P = Unit {0}

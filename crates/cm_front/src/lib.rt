@@ -3,8 +3,9 @@
 //! the contract of `through`: it gives the three names exactly where the bytes of the file are of that form.
 #![tactic(auto)]
 
-ghost use Rattle.std.specs.Prelude.{◌≡◌, ◌≢◌, ◌≤◌, ℕ, List, length, IfOk};
-ghost use Rattle.cm_front.specs.Answer.{IsNotYet, IsOkUnlessMemory, IfRefused};
+ghost use Rattle.std.specs.Prelude.{◌≡◌, ◌≢◌, ◌≤◌, ℕ, List, length, IfOk, MatchResult};
+ghost use Rattle.cm_base.specs.declared.failure.Fail.TheVariants.{NoMemory as LacksMemory};
+ghost use Rattle.cm_front.specs.Answer.{IsNotYet, IfRefused};
 ghost use Rattle.cm_front.specs.Form.{IsForm, IsName};
 
 mod cursor;
@@ -60,7 +61,7 @@ pub fn through(alloc: Global, file: &[u8]) -> Result<Through, Fail>
     ensures ok { IfOk result (λ t. IsForm file.now t.processor t.input t.output) }
     // The names of the form are found, and there are no others.
     ensures only { (processor input output : List ℕ) → IsForm file.now processor input output →
-        IsOkUnlessMemory result (λ t. (t.processor ≡ processor) × (t.input ≡ input) × (t.output ≡ output)) }
+        MatchResult result (λ t. (t.processor ≡ processor) × (t.input ≡ input) × (t.output ≡ output)) (λ e. e ≡ LacksMemory) }
     ensures refused { IfRefused result IsNotYet }
     ensures no_form { IfRefused result (λ _. (processor input output : List ℕ) → ¬ IsForm file.now processor input output) }
     ensures distinct { IfOk result (λ t. (t.processor ≢ t.input) × (t.processor ≢ t.output) × (t.input ≢ t.output)) }

@@ -12,7 +12,7 @@ use Rattle.cm_tree.specs.Run.{run, patch_player, first_world}
 use Rattle.cm_tree.specs.Sizes.{cost}
 use Rattle.cm_tree.specs.Through.{through_patch}
 use Rattle.wasm_tree.specs.Keeps.{KeepsRun, KeepsRuns, IsFront}
-use Rattle.wasm_tree.specs.HostRun.{host_run, first_session, first_memory}
+use Rattle.wasm_tree.specs.HostRun.{host_run, first_instance, first_memory}
 use Rattle.module_build.specs.Through.{through_module, through_section}
 use Rattle.module_build.proofs.Source.{all_frames, frames_of, told_of, ended_with, frame_inputs, play-goes, play-spent, play-done, is_name-refl, is_name-distinct}
 use Rattle.module_build.proofs.Target.{player_of, init_goes, init_spent, one_spent, two_spent, frames_end}
@@ -66,8 +66,8 @@ room described = zeros_are_long 65536 (lit≤ tt)
 target_ends : (described input output : List ℕ) (saved : List Saved) (script : Script) (frames steps : ℕ) → IsScript (ends_of_form input output) script →
     host_run (through_module described) (through_section input output) saved script frames (suc (suc (suc steps))) ≡ ended_with (told_of (value_of script.streams) 0 frames)
 target_ends described input output saved script frames steps is =
-    ap (λ tasks. play (player_of described input output (suc (suc (suc steps)))) tasks (first_session (through_module described) (through_section input output))) (tasks_are input output saved script frames is)
-    ∙ (play-goes (player_of described input output (suc (suc (suc steps)))) Init (frames_of (value_of script.streams) 0 frames) (first_session (through_module described) (through_section input output)) _
+    ap (λ tasks. play (player_of described input output (suc (suc (suc steps)))) tasks (first_instance (through_module described) (through_section input output))) (tasks_are input output saved script frames is)
+    ∙ (play-goes (player_of described input output (suc (suc (suc steps)))) Init (frames_of (value_of script.streams) 0 frames) (first_instance (through_module described) (through_section input output)) _
     (init_goes described input output (suc (suc steps)) (following (frames_of (value_of script.streams) 0 frames)) (first_memory (through_module described)) _ [])
     ∙ frames_end described input output steps (value_of script.streams) frames 0 (first_memory (through_module described)) _ [] (values_fit input output script is) (room described))
 
@@ -89,25 +89,25 @@ ended_part outcome e = record {
 -- from `init` on, with one reduction or more
 after_init : (described input output : List ℕ) (saved : List Saved) (script : Script) (frames steps : ℕ) → IsScript (ends_of_form input output) script →
     host_run (through_module described) (through_section input output) saved script frames (suc steps)
-    ≡ play (player_of described input output (suc steps)) (frames_of (value_of script.streams) 0 frames) (first_session (through_module described) (through_section input output))
+    ≡ play (player_of described input output (suc steps)) (frames_of (value_of script.streams) 0 frames) (first_instance (through_module described) (through_section input output))
 after_init described input output saved script frames steps is =
-    ap (λ tasks. play (player_of described input output (suc steps)) tasks (first_session (through_module described) (through_section input output))) (tasks_are input output saved script frames is)
-    ∙ play-goes (player_of described input output (suc steps)) Init (frames_of (value_of script.streams) 0 frames) (first_session (through_module described) (through_section input output)) _
+    ap (λ tasks. play (player_of described input output (suc steps)) tasks (first_instance (through_module described) (through_section input output))) (tasks_are input output saved script frames is)
+    ∙ play-goes (player_of described input output (suc steps)) Init (frames_of (value_of script.streams) 0 frames) (first_instance (through_module described) (through_section input output)) _
     (init_goes described input output steps (following (frames_of (value_of script.streams) 0 frames)) (first_memory (through_module described)) _ [])
 
 no_reduction : (described input output : List ℕ) (saved : List Saved) (script : Script) (frames : ℕ) → IsScript (ends_of_form input output) script →
     IsIdle (host_run (through_module described) (through_section input output) saved script frames 0) frames
 no_reduction described input output saved script frames is = spent_part _ Init frames
-    (ap (λ tasks. play (player_of described input output 0) tasks (first_session (through_module described) (through_section input output))) (tasks_are input output saved script frames is)
-    ∙ play-spent (player_of described input output 0) Init (frames_of (value_of script.streams) 0 frames) (first_session (through_module described) (through_section input output)) _
+    (ap (λ tasks. play (player_of described input output 0) tasks (first_instance (through_module described) (through_section input output))) (tasks_are input output saved script frames is)
+    ∙ play-spent (player_of described input output 0) Init (frames_of (value_of script.streams) 0 frames) (first_instance (through_module described) (through_section input output)) _
     (init_spent described input output (following (frames_of (value_of script.streams) 0 frames)) (first_memory (through_module described)) _ []))
 
 no_reduction_spent : (described input output : List ℕ) (saved : List Saved) (script : Script) (frames : ℕ) → IsScript (ends_of_form input output) script →
     (host_run (through_module described) (through_section input output) saved script frames 0).ending ≢ Ended
 no_reduction_spent described input output saved script frames is h =
     let e = ap (λ (o : Outcome). o.ending)
-    (ap (λ tasks. play (player_of described input output 0) tasks (first_session (through_module described) (through_section input output))) (tasks_are input output saved script frames is)
-    ∙ play-spent (player_of described input output 0) Init (frames_of (value_of script.streams) 0 frames) (first_session (through_module described) (through_section input output)) _
+    (ap (λ tasks. play (player_of described input output 0) tasks (first_instance (through_module described) (through_section input output))) (tasks_are input output saved script frames is)
+    ∙ play-spent (player_of described input output 0) Init (frames_of (value_of script.streams) 0 frames) (first_instance (through_module described) (through_section input output)) _
     (init_spent described input output (following (frames_of (value_of script.streams) 0 frames)) (first_memory (through_module described)) _ []))
     in let k = sym h ∙ e in cc (k)
 
@@ -118,7 +118,7 @@ one_reduction described input output saved script zero is =
 one_reduction described input output saved script (suc count) is =
     spent_part _ (Frame 0 (frame_inputs (value_of script.streams 0))) (suc count)
     (after_init described input output saved script (suc count) 0 is
-    ∙ play-spent (player_of described input output 1) (Frame 0 (frame_inputs (value_of script.streams 0))) (frames_of (value_of script.streams) (0 + 1) count) (first_session (through_module described) (through_section input output)) _
+    ∙ play-spent (player_of described input output 1) (Frame 0 (frame_inputs (value_of script.streams 0))) (frames_of (value_of script.streams) (0 + 1) count) (first_instance (through_module described) (through_section input output)) _
     (one_spent described input output (value_of script.streams 0) 0 (following (frames_of (value_of script.streams) (0 + 1) count)) (first_memory (through_module described)) _ [] (room described)))
 
 two_reductions : (described input output : List ℕ) (saved : List Saved) (script : Script) (frames : ℕ) → IsScript (ends_of_form input output) script →
@@ -128,7 +128,7 @@ two_reductions described input output saved script zero is =
 two_reductions described input output saved script (suc count) is =
     spent_part _ (Frame 0 (frame_inputs (value_of script.streams 0))) (suc count)
     (after_init described input output saved script (suc count) 1 is
-    ∙ play-spent (player_of described input output 2) (Frame 0 (frame_inputs (value_of script.streams 0))) (frames_of (value_of script.streams) (0 + 1) count) (first_session (through_module described) (through_section input output)) _
+    ∙ play-spent (player_of described input output 2) (Frame 0 (frame_inputs (value_of script.streams 0))) (frames_of (value_of script.streams) (0 + 1) count) (first_instance (through_module described) (through_section input output)) _
     (two_spent described input output (value_of script.streams 0) 0 (following (frames_of (value_of script.streams) (0 + 1) count)) (first_memory (through_module described)) _ [] (room described)))
 
 -- ---- both

@@ -1,8 +1,8 @@
-ghost use Rattle.std.specs.Prelude.{◌≡◌, ◌<◌, ◌≤◌, ◌^◌, length, IfOk, MatchResult};
+ghost use Rattle.std.specs.Prelude.{◌≡◌, ◌<◌, ◌≤◌, ◌^◌, length, IfErr, IfOk, MatchResult};
 ghost use Rattle.wasm_tree.specs.Spelled.{Spelled};
 ghost use Rattle.wasm_tree.specs.declared.failure.ModuleFail.TheVariants.{NoMemory as LacksMemory};
 ghost use Rattle.wasm_tree.specs.declared.module.Module.{Module as TheModule};
-ghost use Rattle.wasm_copy.specs.Copies.{IsCopy, IsOkUnlessMemory};
+ghost use Rattle.wasm_copy.specs.Copies.{IsCopy};
 ghost use Rattle.wasm_writer.specs.Spelling.{IsWritable};
 
 use cm_base::Bytes;
@@ -26,7 +26,7 @@ pub fn reread(alloc: Global, module: &Module) -> Result<Module, ModuleFail>
 pub fn shortened(alloc: Global, bytes: &[u8]) -> Result<Bytes, ModuleFail>
     requires { length bytes.now < 2 ^ 32 }
     ensures copy { IfOk result (IsCopy bytes.now) }
-    ensures only { (m : TheModule) → Spelled bytes.now m → IsOkUnlessMemory result }
+    ensures only { (m : TheModule) → Spelled bytes.now m → IfErr result (λ e. e ≡ LacksMemory) }
 {
     spelled_is_writable();
     spelling_is_shortest();

@@ -1,10 +1,11 @@
 -- Instructions and modules as bytes.
-use Rattle.std.proofs.Common.{ℕ, List, [], ◌∷◌, ◌++◌, ◌≡◌, refl, inl, inr, lit<}
+use Rattle.std.proofs.Common.{ℕ, suc, ◌<◌, ◌≤◌, List, [], ◌∷◌, ◌++◌, length, ◌≡◌, Bool, false, None, refl, inl, inr, true, arith, lit<, lit≤}
+use Rattle.wasm_tree.specs.declared.instr.Instr.{Instr}
 use Rattle.wasm_tree.specs.declared.instr.Instr.TheVariants as instr
 use Rattle.wasm_tree.specs.declared.op.LoadOp.TheVariants as load
 use Rattle.wasm_tree.specs.Spelled.{Joined, Begins, Instruction, IsClosed, Body, Spelled, header}
 use Rattle.wasm_tree.specs.declared.module.Module.{Module}
-use Rattle.wasm_examples.specs.Bytes.{nested_code, stray_else, second_else, empty_module, type_module, type_bytes, version_two, next_body}
+use Rattle.wasm_examples.specs.Bytes.{nested_code, stray_else, second_else, empty_module, type_module, type_bytes, version_two, next_body, body_with}
 
 pub joined : {P Q : List ℕ → Type 0} (front back : List ℕ) → P front → Q back → Joined P Q (front ++ back)
 joined front back p q = record { front = front; back = back; whole = refl; first = p; second = q }
@@ -22,8 +23,12 @@ body_spelled = (
   0x01 ∷ 0x02 ∷ 0x7E ∷ 0x20 ∷ 0x00 ∷ 0x41 ∷ 0x01 ∷ 0x6A ∷ 0x0B ∷ [],
   joined (0x09 ∷ []) (0x01 ∷ 0x02 ∷ 0x7E ∷ 0x20 ∷ 0x00 ∷ 0x41 ∷ 0x01 ∷ 0x6A ∷ 0x0B ∷ []) (lit< tt, lit< tt, refl) refl,
   joined (0x01 ∷ 0x02 ∷ 0x7E ∷ []) (0x20 ∷ 0x00 ∷ 0x41 ∷ 0x01 ∷ 0x6A ∷ 0x0B ∷ [])
-      (joined (0x01 ∷ []) (0x02 ∷ 0x7E ∷ []) (lit< tt, lit< tt, refl)
-      (joined (0x02 ∷ 0x7E ∷ []) [] (joined (0x02 ∷ []) (0x7E ∷ []) (lit< tt, lit< tt, refl) refl) refl))
+      (record {
+        spelled =
+            joined (0x01 ∷ []) (0x02 ∷ 0x7E ∷ []) (lit< tt, lit< tt, refl)
+            (joined (0x02 ∷ 0x7E ∷ []) [] (joined (0x02 ∷ []) (0x7E ∷ []) (lit< tt, lit< tt, refl) refl) refl);
+        few = lit≤ tt;
+      })
       (record {
         spelled =
             joined (0x20 ∷ 0x00 ∷ []) (0x41 ∷ 0x01 ∷ 0x6A ∷ 0x0B ∷ []) (begins 0x20 (0x00 ∷ []) (lit< tt, lit< tt, refl))
@@ -35,15 +40,37 @@ body_spelled = (
 
 -- each sequence is ended, and the function's own end comes last
 pub nested_closed : IsClosed [] nested_code
-nested_closed = refl
+nested_closed = (lit< tt, (lit< tt, refl))
 
 -- a block has no second arm
 pub stray_open : IsClosed [] stray_else → ⊥
-stray_open h = h
+stray_open h = h.1
 
 -- an `if` has no third arm
 pub second_open : IsClosed [] second_else → ⊥
-second_open h = h
+second_open h = h.1
+
+-- the 4,096th sequence is opened
+pub deep_closed : (arms : List Bool) (code : List Instr) → length arms ≡ 4095 → IsClosed (false ∷ arms) code → IsClosed arms (instr.Loop None ∷ code)
+deep_closed [] code e h = absurd (omega arith)
+deep_closed (false ∷ arms) code e h = (omega arith, h)
+deep_closed (true ∷ arms) code e h = (omega arith, h)
+
+-- and no further one inside it
+pub too_deep_open : (arms : List Bool) (code : List Instr) → length arms ≡ 4096 → IsClosed arms (instr.Loop None ∷ code) → ⊥
+too_deep_open [] code e h = omega arith
+too_deep_open (false ∷ arms) code e h =
+    let less : suc (length arms) < 4096 = h.0 in
+    omega arith
+too_deep_open (true ∷ arms) code e h =
+    let less : suc (length arms) < 4096 = h.0 in
+    omega arith
+
+-- 65,536 locals and one more
+pub no_body : (code : List Instr) (bytes : List ℕ) → Body (body_with 65536 1 code) bytes → ⊥
+no_body code bytes h =
+    let few : 65537 ≤ 65536 = h.2.first.few in
+    omega arith
 
 -- the header alone is a module with no section
 pub empty_spelled : Spelled header empty_module

@@ -43,3 +43,7 @@ version_two = 0x00 ∷ 0x61 ∷ 0x73 ∷ 0x6D ∷ 0x02 ∷ 0x00 ∷ 0x00 ∷ 0x0
 abbrev pub next_body : FuncBody
 next_body =
     record { locals = record { count = 2; ty = I64 } ∷ []; code = instr.LocalGet 0 ∷ instr.I32Const (pos 1) ∷ instr.Binary I32 binary.Add ∷ instr.End ∷ [] }
+
+-- a body that declares so many locals in two runs
+abbrev pub body_with : ℕ → ℕ → List Instr → FuncBody
+body_with first second code = record { locals = record { count = first; ty = I32 } ∷ record { count = second; ty = I64 } ∷ []; code = code }

@@ -5,9 +5,10 @@
 //! nothing, and nothing is built on them. The codes and modules stand in `specs/`.
 #![tactic(auto)]
 
-ghost use Rattle.std.specs.Prelude.{◌≡◌, ℕ, List, [], ◌∷◌, pos, negsuc};
+ghost use Rattle.std.specs.Prelude.{◌≡◌, ℕ, List, [], ◌∷◌, length, Bool, false, None, pos, negsuc};
 ghost use Rattle.cm_base.specs.declared.play.Item.TheVariants as item;
 ghost use Rattle.cm_base.specs.Parts.{Send, Frame, Ended, Out as PartOut, Trapped as PartTrapped};
+ghost use Rattle.wasm_tree.specs.declared.instr.Instr.{Instr};
 ghost use Rattle.wasm_tree.specs.declared.instr.Instr.TheVariants as instr;
 ghost use Rattle.wasm_tree.specs.declared.op.LoadOp.TheVariants as load;
 ghost use Rattle.wasm_tree.specs.declared.op.BinaryOp.TheVariants as binary;
@@ -17,7 +18,7 @@ ghost use Rattle.wasm_tree.specs.Spelled.{Unsigned, Signed, Instruction, IsClose
 ghost use Rattle.wasm_tree.specs.Reduce.{Trapped};
 ghost use Rattle.wasm_tree.specs.Section.{Spelled_section};
 ghost use Rattle.wasm_tree.specs.Valid.{Valid};
-ghost use Rattle.wasm_examples.specs.Bytes.{nested_code, stray_else, second_else, empty_module, type_module, type_bytes, version_two, next_body};
+ghost use Rattle.wasm_examples.specs.Bytes.{nested_code, stray_else, second_else, empty_module, type_module, type_bytes, version_two, next_body, body_with};
 ghost use Rattle.wasm_examples.specs.Runs.{run_of, EndsIn, block_code, loop_code, next_function, call_code, table_code, binary_code, least, memory_code, load_code};
 ghost use Rattle.wasm_examples.specs.Types.{HasType, sum_code, choice_code, add_code};
 ghost use Rattle.wasm_examples.specs.Hosts.{run_of_event, add_event, pass_event, divide_event, event_module, pageless_module, three_slots, three_slots_bytes, run_of_frames, run_of_mix, saved_level};
@@ -34,14 +35,17 @@ pub fn numbers_are_spelled()
 {}
 
 /// Instructions and modules (5.4, 5.5): a load with its alignment and offset, sequences that are closed, an
-/// `else` that ends no first arm, a function's body, the header alone and with a section of types, and the
-/// header of another version.
+/// `else` that ends no first arm, a loop inside 4,095 sequences and none inside 4,096, a function's body, none
+/// of 65,537 locals, the header alone and with a section of types, and the header of another version.
 pub fn instructions_are_spelled()
     ensures load { Instruction (instr.Load load.I32 (record { align = 2; offset = 4 })) (0x28 ∷ 0x02 ∷ 0x04 ∷ []) }
     ensures closed { IsClosed [] nested_code }
     ensures stray { IsClosed [] stray_else → ⊥ }
     ensures second { IsClosed [] second_else → ⊥ }
+    ensures deep { (arms : List Bool) (code : List Instr) → length arms ≡ 4095 → IsClosed (false ∷ arms) code → IsClosed arms (instr.Loop None ∷ code) }
+    ensures too_deep { (arms : List Bool) (code : List Instr) → length arms ≡ 4096 → IsClosed arms (instr.Loop None ∷ code) → ⊥ }
     ensures body { Body next_body (0x09 ∷ 0x01 ∷ 0x02 ∷ 0x7E ∷ 0x20 ∷ 0x00 ∷ 0x41 ∷ 0x01 ∷ 0x6A ∷ 0x0B ∷ []) }
+    ensures many_locals { (code : List Instr) (bytes : List ℕ) → Body (body_with 65536 1 code) bytes → ⊥ }
     ensures empty { Spelled header empty_module }
     ensures types { Spelled type_bytes type_module }
     ensures other_version { (m : Module) → Spelled version_two m → ⊥ }

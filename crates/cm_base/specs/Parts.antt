@@ -165,3 +165,29 @@ unfoldable pub play : {World : Type 0} → Player World → List Task → World 
 play player [] world = record { trace = player.told world; ending = Ended }
 play player (Set endpoint value ∷ tasks) world = play player tasks (player.set endpoint value world)
 play player (Begin part ∷ tasks) world = settle player.told part (player.perform part (following tasks) world) (play player tasks)
+
+-- ---- one part of a run
+
+-- how the part at a place of a run comes out; it isn't begun where one before it doesn't end
+pub data PartEnd : Type 0 where
+  NotBegun : PartEnd
+  PartEnds : PartEnd
+  PartSpent : PartEnd
+  PartTraps : PartEnd
+
+abbrev pub part_end : {World : Type 0} → Left World → PartEnd
+part_end (Goes world) = PartEnds
+part_end (Spent world) = PartSpent
+part_end (Traps world) = PartTraps
+
+abbrev pub when_ended : {World : Type 0} → Left World → (World → PartEnd) → PartEnd
+when_ended (Goes world) go = go world
+when_ended (Spent world) go = NotBegun
+when_ended (Traps world) go = NotBegun
+
+-- the part at this place, counted from 0: `before` carries out what comes before it, and `player` the part itself
+unfoldable pub play_part : {World : Type 0} → Player World → Player World → ℕ → List Task → World → PartEnd
+play_part before player place [] world = NotBegun
+play_part before player place (Set endpoint value ∷ tasks) world = play_part before player place tasks (before.set endpoint value world)
+play_part before player zero (Begin part ∷ tasks) world = part_end (player.perform part (following tasks) world)
+play_part before player (suc place) (Begin part ∷ tasks) world = when_ended (before.perform part (following tasks) world) (play_part before player place tasks)

@@ -7,7 +7,7 @@ use Rattle.cm_base.specs.declared.play.Item.{Item}
 use Rattle.cm_base.specs.declared.play.Item.TheVariants as item
 use Rattle.cm_base.specs.declared.play.Saved.{Saved}
 use Rattle.cm_base.specs.declared.play.Script.{Script}
-use Rattle.cm_base.specs.Parts.{Inputs, Part, Init, Send, Frame, Left, Goes, Spent, Player, Outcome, play, tasks_of, is_input, is_stream}
+use Rattle.cm_base.specs.Parts.{Inputs, Part, Init, Send, Frame, Left, Goes, Spent, Player, Outcome, PartEnd, play, play_part, tasks_of, is_input, is_stream}
 use Rattle.cm_tree.specs.Patch.{Endpoint, Processor, Point, Chain, Patch}
 use Rattle.cm_tree.specs.Resume.{Do, Leaf, zeros, sum_of, at_number, After, Pauses, Out, resume, Goes as Returns}
 
@@ -161,3 +161,9 @@ first_world patch =
 -- the run of the patch over so many frames, with a budget of so many turns
 abbrev pub run : Patch → List Saved → Script → ℕ → ℕ → Outcome
 run patch saved script frames turns = play (patch_player patch turns) (tasks_of patch.host saved script frames) (first_world patch)
+
+-- how the part at this place of the run comes out with a budget of so many turns, where each part before it had
+-- the other
+abbrev pub run_part : Patch → List Saved → Script → ℕ → ℕ → ℕ → ℕ → PartEnd
+run_part patch saved script frames place turns before =
+    play_part (patch_player patch before) (patch_player patch turns) place (tasks_of patch.host saved script frames) (first_world patch)

@@ -1,3 +1,4 @@
+pub mod EndedParts
 pub mod Source
 pub mod Target
 pub mod Tasks

@@ -1,5 +1,5 @@
 -- The module that passes its input through keeps its patch, and can be written.
-use Rattle.std.proofs.Common.{◌≡◌, ◌≢◌, ℕ, ◌+◌, ◌<◌, ◌^◌, List, [], ◌∷◌, length, refl, sym, subst, arith, lit<}
+use Rattle.std.proofs.Common.{◌≡◌, ◌≢◌, ℕ, ◌+◌, ◌<◌, ◌≤◌, ◌^◌, List, [], ◌∷◌, length, refl, sym, subst, arith, lit≤, lit<}
 use Rattle.std.specs.Prelude.{Result, Ok, Err, IfOk, Some}
 use Rattle.cm_tree.specs.Sizes.{memory_pages}
 use Rattle.cm_tree.specs.Through.{through_patch}
@@ -7,7 +7,7 @@ use Rattle.wasm_tree.specs.declared.module.Custom.{Custom}
 use Rattle.wasm_tree.specs.declared.module.FuncBody.{FuncBody}
 use Rattle.wasm_tree.specs.declared.module.GlobalVar.{GlobalVar}
 use Rattle.wasm_tree.specs.Section.{Spelled_section}
-use Rattle.wasm_tree.specs.Spelled.{IsClosed, IsConstant}
+use Rattle.wasm_tree.specs.Spelled.{count_of_locals, most_locals, IsClosed, IsConstant}
 use Rattle.wasm_writer.specs.Spelling.{IsWritable, unsigned_bytes, unsigned_within, signed_bytes, signed_within, custom_contents}
 use Rattle.std.proofs.lemmas.List.Elements.{All-from_recursion}
 use Rattle.module_build.specs.Build.{KeepsPatch, HasPages}
@@ -42,6 +42,7 @@ writable described short = record {
   segments = lit< tt;
   customs = All-from_recursion (λ (custom : Custom). length (custom_contents custom) < 2 ^ 32) (cmajor_custom described ∷ []) (custom_short described short, tt);
   constant = All-from_recursion (λ (global : GlobalVar). IsConstant global.value) [] tt;
+  locals = All-from_recursion (λ (body : FuncBody). count_of_locals body.locals ≤ most_locals) (through_module described).codes (lit≤ tt, (lit≤ tt, tt));
   closed = All-from_recursion (λ (body : FuncBody). IsClosed [] body.code) (through_module described).codes (refl, (refl, tt));
   sorted = refl;
   bodies = refl;

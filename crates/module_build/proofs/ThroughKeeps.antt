@@ -6,16 +6,17 @@ use Rattle.std.proofs.lemmas.List.{length-replicate, append-nil}
 use Rattle.cm_base.specs.declared.play.Item.{Item}
 use Rattle.cm_base.specs.declared.play.Saved.{Saved}
 use Rattle.cm_base.specs.declared.play.Script.{Script}
-use Rattle.cm_base.specs.Parts.{Init, Frame, Part, Ended, Out, Trapped, Ending, Outcome, play, following}
+use Rattle.cm_base.specs.Parts.{Init, Frame, Part, Ended, Out, Trapped, Ending, Outcome, PartEnd, NotBegun, PartEnds, tasks_of, play, following}
 use Rattle.cm_base.specs.Scripts.{IsScript}
-use Rattle.cm_tree.specs.Run.{run, patch_player, first_world}
+use Rattle.cm_tree.specs.Run.{run, run_part, patch_player, first_world}
 use Rattle.cm_tree.specs.Sizes.{cost}
 use Rattle.cm_tree.specs.Through.{through_patch}
 use Rattle.wasm_tree.specs.Keeps.{KeepsRun, KeepsRuns, IsFront}
-use Rattle.wasm_tree.specs.HostRun.{host_run, first_instance, first_memory}
+use Rattle.wasm_tree.specs.HostRun.{host_run, host_part, first_instance, first_memory}
 use Rattle.module_build.specs.Through.{through_module, through_section}
 use Rattle.module_build.proofs.Source.{all_frames, frames_of, told_of, ended_with, frame_inputs, play-goes, play-spent, play-done, is_name-refl, is_name-distinct}
 use Rattle.module_build.proofs.Target.{player_of, init_goes, init_spent, one_spent, two_spent, frames_end}
+use Rattle.module_build.proofs.EndedParts.{ended_parts}
 use Rattle.module_build.proofs.Tasks.{ends_of_form, tasks_are, value_of, values_fit}
 
 -- ---- the source
@@ -197,13 +198,24 @@ pub record IsWorth (cost : ℕ) : Type 0 where
   pub more : ℕ → ℕ
   pub is : (n : ℕ) → cost * (n + 1) ≡ suc (suc (suc (more n)))
 
-keeps_both : (cost frames : ℕ) (told : List Item) (source target : ℕ → Outcome) → IsWorth cost → BothEnd frames told source target → KeepsRun cost source target
-keeps_both cost frames told source target worth both = record {
+-- a target that ends each part that it begins, wherever its run ends
+abbrev pub EndsParts : (target : ℕ → Outcome) (target_part : ℕ → ℕ → PartEnd) → Type 0
+EndsParts target target_part = (m place : ℕ) → (target m).ending ≡ Ended → target_part place m ≢ NotBegun → target_part place m ≡ PartEnds
+
+both_parts : (frames : ℕ) (told : List Item) (source target : ℕ → Outcome) (target_part : ℕ → ℕ → PartEnd) → BothEnd frames told source target → EndsParts target target_part →
+    (worth place : ℕ) → target_part place (suc (suc (suc worth))) ≢ NotBegun → target_part place (suc (suc (suc worth))) ≡ PartEnds
+both_parts frames told source target target_part both ends worth place = ends (suc (suc (suc worth))) place (ap (λ (o : Outcome). o.ending) (both.target_ended worth))
+
+keeps_both : (cost frames : ℕ) (told : List Item) (source target : ℕ → Outcome) (source_part : ℕ → ℕ → ℕ → PartEnd) (target_part : ℕ → ℕ → PartEnd) →
+    IsWorth cost → BothEnd frames told source target → EndsParts target target_part → KeepsRun cost source target source_part target_part
+keeps_both cost frames told source target source_part target_part worth both ends = record {
   forward = λ n e. ap target (worth.is n) ∙ both_forward frames told source target both (worth.more n) n e;
   backward = both_backward frames told source target both;
   told = both_told frames told source target both;
   reached = λ n. subst (λ (m : ℕ). IsFront (source n).trace (target m).trace) (sym (worth.is n)) (both_reached frames told source target both (worth.more n) n);
   never_traps = both_traps frames told source target both;
+  part_by_part = λ n place _. subst (λ (m : ℕ). target_part place m ≢ NotBegun → target_part place m ≡ PartEnds) (sym (worth.is n))
+      (both_parts frames told source target target_part both ends (worth.more n) place);
 }
 
 -- ---- the patch and its module
@@ -231,9 +243,16 @@ through_cost input output ne = rw (is_name-refl input, is_name-distinct input ou
 worth_of : IsWorth 4352
 worth_of = record { more = λ n. 4352 * n + 4349; is = λ n. omega arith }
 
+through_parts : (described input output : List ℕ) (saved : List Saved) (script : Script) (frames : ℕ) →
+    EndsParts (host_run (through_module described) (through_section input output) saved script frames) (host_part (through_module described) (through_section input output) saved script frames)
+through_parts described input output saved script frames m place =
+    ended_parts (player_of described input output m) place (tasks_of (ends_of_form input output) saved script frames) (first_instance (through_module described) (through_section input output))
+
 pub through_keeps : (described input output : List ℕ) → (input ≡ output → ⊥) →
-    KeepsRuns (ends_of_form input output) (cost (through_patch input output)) (run (through_patch input output)) (through_module described) (through_section input output)
+    KeepsRuns (ends_of_form input output) (cost (through_patch input output)) (run (through_patch input output)) (run_part (through_patch input output)) (through_module described) (through_section input output)
 through_keeps described input output ne saved script frames in_range is few =
-    subst (λ (c : ℕ). KeepsRun c (run (through_patch input output) saved script frames) (host_run (through_module described) (through_section input output) saved script frames))
+    subst
+    (λ (c : ℕ). KeepsRun c (run (through_patch input output) saved script frames) (host_run (through_module described) (through_section input output) saved script frames)
+    (run_part (through_patch input output) saved script frames) (host_part (through_module described) (through_section input output) saved script frames))
     (sym (through_cost input output ne))
-    (keeps_both 4352 frames _ _ _ worth_of (through_both described input output ne saved script frames is))
+    (keeps_both 4352 frames _ _ _ _ _ worth_of (through_both described input output ne saved script frames is) (through_parts described input output saved script frames))

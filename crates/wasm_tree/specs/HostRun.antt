@@ -11,7 +11,7 @@ use Rattle.cm_base.specs.declared.play.Item.{Item}
 use Rattle.cm_base.specs.declared.play.Item.TheVariants as item
 use Rattle.cm_base.specs.declared.play.Saved.{Saved}
 use Rattle.cm_base.specs.declared.play.Script.{Script}
-use Rattle.cm_base.specs.Parts.{Inputs, Part, Init, Send, Frame, Left, Goes, Spent, Traps, Player, Outcome, play, tasks_of, first_of, is_input, is_stream, is_value, is_event, is_stream_input, is_name}
+use Rattle.cm_base.specs.Parts.{Inputs, Part, Init, Send, Frame, Left, Goes, Spent, Traps, Player, Outcome, PartEnd, play, play_part, tasks_of, first_of, is_input, is_stream, is_value, is_event, is_stream_input, is_name}
 use Rattle.cm_scalar.specs.Scalars.{converted}
 use Rattle.wasm_tree.specs.declared.module.FuncBody.{FuncBody}
 use Rattle.wasm_tree.specs.declared.module.ExportEntry.{ExportEntry}
@@ -332,3 +332,8 @@ first_instance m section =
 abbrev pub host_run : Module → Section → List Saved → Script → ℕ → ℕ → Outcome
 host_run m section saved script frames steps =
     play (module_player m section steps) (tasks_of (ends_of section) saved script frames) (first_instance m section)
+
+-- how the part at this place of the run comes out, each with a budget of so many reductions
+abbrev pub host_part : Module → Section → List Saved → Script → ℕ → ℕ → ℕ → PartEnd
+host_part m section saved script frames place steps =
+    play_part (module_player m section steps) (module_player m section steps) place (tasks_of (ends_of section) saved script frames) (first_instance m section)

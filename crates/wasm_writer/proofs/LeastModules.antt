@@ -8,7 +8,7 @@ use Rattle.std.proofs.lemmas.List.Elements.{All-from_recursion, filter-append}
 use Rattle.std.proofs.lemmas.List.Concat.{flat_map-append}
 use Rattle.wasm_tree.specs.declared.module.Custom.{Custom}
 use Rattle.wasm_tree.specs.declared.module.Module.{Module}
-use Rattle.wasm_tree.specs.Spelled.{Each, Index, Vector, Raw, Section, contents_of, Custom_contents, CustomsAre, cmajor, is_text, sorted_customs, header, Type_of_function, Imported, Memory, Global, IsConstant, Exported, Body, IsClosed, Data, Spelled}
+use Rattle.wasm_tree.specs.Spelled.{Each, Index, Vector, Raw, Section, contents_of, Custom_contents, CustomsAre, cmajor, is_text, sorted_customs, header, Type_of_function, Imported, Memory, Global, IsConstant, Exported, count_of_locals, most_locals, Body, IsClosed, Data, Spelled}
 use Rattle.wasm_writer.specs.Spelling.{unsigned_bytes, vector_bytes, function_type_bytes, import_bytes, memory_bytes, global_bytes, export_bytes, body_bytes, segment_bytes, custom_contents, custom_bytes, spelling, IsWritable}
 use Rattle.wasm_writer.proofs.Numbers.{unsigned_end}
 use Rattle.wasm_writer.proofs.SectionLemmas.{listed, Place, raw_bytes, bytes_of, IsRising}
@@ -257,6 +257,7 @@ spelled_writable bytes m s lt =
       segments = listed_small 11 segment_bytes m.segments (omega (arith, small));
       customs = All-from_recursion (λ custom. length (custom_contents custom) < 2 ^ 32) m.customs (customs_small m.customs (omega (arith, small)));
       constant = All-from_recursion (λ global. IsConstant global.value) m.globals (lists_all Global (λ global. IsConstant global.value) (λ x bytes h. h.constant) (contents_of 6 s.raws) m.globals s.globals);
+      locals = All-from_recursion (λ body. count_of_locals body.locals ≤ most_locals) m.codes (lists_all Body (λ body. count_of_locals body.locals ≤ most_locals) (λ x bytes h. h.2.first.few) (contents_of 10 s.raws) m.codes s.codes);
       closed = All-from_recursion (λ body. IsClosed [] body.code) m.codes (lists_all Body (λ body. IsClosed [] body.code) (λ x bytes h. h.2.second.closed) (contents_of 10 s.raws) m.codes s.codes);
       sorted = rw s.sorted (sorted_again s.found);
       bodies = s.bodies;

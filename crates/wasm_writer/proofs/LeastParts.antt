@@ -21,7 +21,7 @@ use Rattle.wasm_tree.specs.declared.instr.MemArg.{MemArg}
 use Rattle.wasm_tree.specs.declared.instr.Instr.{Instr}
 use Rattle.wasm_tree.specs.declared.instr.Instr.TheVariants.{Unreachable, Nop, Block, Loop, If, Else, End, Br, BrIf, BrTable, Return, Call, Drop, Select, LocalGet, LocalSet, LocalTee, GlobalGet, GlobalSet, Load, Store, MemorySize, I32Const, I64Const, Test, Compare, Unary, Binary, Convert}
 use Rattle.wasm_tree.specs.Opcode.{load_opcode, store_opcode}
-use Rattle.wasm_tree.specs.Spelled.{Joined, Is, Begins, Each, Index, Signed, Vector, Text, Name, type_byte, Type_of_value, Type_of_function, Bounds, Memory, Place, Instruction, Import_kind, Imported, Export_kind, Exported, mutable_byte, Global, Data, Locals, Expression, Body, Custom_contents}
+use Rattle.wasm_tree.specs.Spelled.{Joined, Is, Begins, Each, Index, Signed, Vector, Text, Name, type_byte, Type_of_value, Type_of_function, Bounds, Memory, Place, Instruction, Import_kind, Imported, Export_kind, Exported, mutable_byte, Global, Data, Locals, LocalRuns, Expression, Body, Custom_contents}
 use Rattle.wasm_writer.specs.Spelling.{unsigned_within, unsigned_bytes, signed_bytes, vector_bytes, text_bytes, value_type_bytes, function_type_bytes, bounds_bytes, memory_bytes, place_bytes, instruction_bytes, import_kind_bytes, import_bytes, export_kind_bytes, export_bytes, global_bytes, locals_bytes, code_bytes, body_bytes, segment_bytes, custom_contents}
 use Rattle.wasm_writer.proofs.Numbers.{unsigned_one, unsigned_more, index_shortest, signed_shortest}
 
@@ -158,12 +158,15 @@ global_least global =
 locals_least : (run : LocalRun) → Least (Locals run) (locals_bytes run)
 locals_least run = joined_least (index_least run.count) (value_type_least run.ty)
 
+local_runs_least : (runs : List LocalRun) → Least (LocalRuns runs) (vector_bytes locals_bytes runs)
+local_runs_least runs = let vector = vector_least Locals locals_bytes locals_least runs in record { le = λ bytes h. vector.le bytes h.spelled }
+
 expression_least : (code : List Instr) → Least (Expression code) (flat_map instruction_bytes code)
 expression_least code = let each = each_least Instruction instruction_bytes instruction_least code in record { le = λ bytes h. each.le bytes h.spelled }
 
 pub body_least : (body : FuncBody) → Least (Body body) (body_bytes body)
 body_least body =
-    let contents = joined_least (vector_least Locals locals_bytes locals_least body.locals) (expression_least body.code) in
+    let contents = joined_least (local_runs_least body.locals) (expression_least body.code) in
     record { le = λ bytes h. (text_least (code_bytes body) h.0 (contents.le h.0 h.2)).le bytes h.1 }
 
 pub segment_least : (segment : Segment) → Least (Data segment) (segment_bytes segment)

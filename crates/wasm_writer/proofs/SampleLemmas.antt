@@ -1,5 +1,5 @@
 -- The module that the tests write can be written.
-use Rattle.std.proofs.Common.{◌≡◌, [], ◌∷◌, Some, true, length, ◌<◌, ◌^◌, refl, lit<, pos, negsuc}
+use Rattle.std.proofs.Common.{◌≡◌, [], ◌∷◌, Some, true, length, ◌<◌, ◌≤◌, ◌^◌, refl, lit<, lit≤, pos, negsuc}
 use Rattle.std.specs.Prelude.{codes}
 use Rattle.std.proofs.lemmas.List.Elements.{All-from_recursion}
 use Rattle.wasm_tree.specs.declared.module.Module.{Module}
@@ -7,7 +7,7 @@ use Rattle.wasm_tree.specs.declared.module.ValType.TheVariants.{I32}
 use Rattle.wasm_tree.specs.declared.module.ImportKind.TheVariants as imported
 use Rattle.wasm_tree.specs.declared.module.ExportKind.TheVariants as exported
 use Rattle.wasm_tree.specs.declared.instr.Instr.TheVariants.{I32Const}
-use Rattle.wasm_tree.specs.Spelled.{IsConstant, IsClosed}
+use Rattle.wasm_tree.specs.Spelled.{IsConstant, IsClosed, count_of_locals, most_locals}
 use Rattle.wasm_writer.specs.Sample.{sample_instructions}
 use Rattle.wasm_writer.specs.Spelling.{unsigned_within, unsigned_bytes, signed_within, signed_bytes, custom_contents, IsWritable}
 
@@ -37,7 +37,8 @@ sample_writable m types imports functions memory globals exports codes segments 
   segments = rw segments (lit< tt);
   customs = rw customs (All-from_recursion (λ custom. length (custom_contents custom) < 2 ^ 32) sample_module.customs (lit< tt, (lit< tt, tt)));
   constant = rw globals (All-from_recursion (λ global. IsConstant global.value) sample_module.globals (tt, tt));
-  closed = rw codes (All-from_recursion (λ body. IsClosed [] body.code) sample_module.codes (refl, tt));
+  locals = rw codes (All-from_recursion (λ body. count_of_locals body.locals ≤ most_locals) sample_module.codes (lit≤ tt, tt));
+  closed = rw codes (All-from_recursion (λ body. IsClosed [] body.code) sample_module.codes ((lit< tt, (lit< tt, refl)), tt));
   sorted = rw customs refl;
   bodies = rw (functions, codes) refl;
 }

@@ -1,4 +1,4 @@
-ghost use Rattle.std.specs.Prelude.{◌≡◌, ◌<◌, ◌^◌, ◌++◌, ◌∷◌, [], length, OnOk};
+ghost use Rattle.std.specs.Prelude.{◌≡◌, ◌<◌, ◌≤◌, ◌^◌, ◌++◌, ◌∷◌, [], length, OnOk};
 ghost use Rattle.wasm_tree.specs.Spelled.{Name as SpellsName, Import_kind, Export_kind, Memory, Begins, mutable_byte};
 ghost use Rattle.wasm_writer.specs.Spelling.{text_bytes, memory_bytes, import_kind_bytes, export_kind_bytes};
 
@@ -133,14 +133,14 @@ impl Part for LocalRun {
 }
 
 impl Part for FuncBody {
-    ghost use Rattle.wasm_tree.specs.Spelled.{Body, IsClosed};
+    ghost use Rattle.wasm_tree.specs.Spelled.{Body, IsClosed, count_of_locals, most_locals};
     ghost use Rattle.wasm_writer.specs.Spelling.{body_bytes};
 
     ghost written = { body_bytes };
 
     ghost allowed = { Body };
 
-    ghost formed = { λ body. IsClosed [] body.code };
+    ghost formed = { λ body. (count_of_locals body.locals ≤ most_locals) × IsClosed [] body.code };
 
     #[tactic(auto, using(crate::proofs::EntryLemmas::body_spelled, crate::proofs::EntryLemmas::body_sizes))]
     fn put(&self, out: &mut Vec<u8>) -> Result<(), NoMemory> {

@@ -29,6 +29,7 @@ row() {
 
 echo "module of $bytes bytes"
 row "cat" sh -c "cat '$dir/in.wasm' >'$dir/cat.wasm'"
+row "wasm_copy (read)" "$copy" "$dir/in.wasm"
 row "wasm_copy (read and write)" "$copy" "$dir/in.wasm" "$dir/copy.wasm"
 cmp "$dir/in.wasm" "$dir/copy.wasm"
 for tool in wasm-validate wasm2wat; do

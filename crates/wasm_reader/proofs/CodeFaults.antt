@@ -1,5 +1,6 @@
 -- The same for instructions and code.
-use Rattle.std.proofs.Common.{◌≡◌, ℕ, zero, suc, ◌≤◌, ◌<◌, Bool, true, false, cond, eqb, List, [], ◌∷◌, ◌++◌, length, Some, None, Result, Ok, Err, refl, sym, ap, subst, ◌∙◌, append_assoc, arith, pos, ◌⊎◌, inl, inr}
+use Rattle.std.proofs.Common.{◌≡◌, ℕ, zero, suc, ◌≤◌, ◌<◌, Bool, true, false, cond, eqb, leb, List, [], ◌∷◌, ◌++◌, length, Some, None, Result, Ok, Err, refl, sym, ap, subst, ◌∙◌, append_assoc, arith, pos, ◌⊎◌, inl, inr}
+use Rattle.std.specs.Prelude.{◌&&◌}
 use Rattle.std.proofs.lemmas.Bool.{eqb-false}
 use Rattle.std.proofs.lemmas.List.{length-append}
 use Rattle.wasm_tree.specs.declared.failure.ModuleRule.{ModuleRule}
@@ -9,22 +10,22 @@ use Rattle.wasm_tree.specs.declared.module.FuncBody.{FuncBody}
 use Rattle.wasm_tree.specs.declared.module.LocalRun.{LocalRun}
 use Rattle.wasm_tree.specs.declared.instr.Instr.{Instr}
 use Rattle.wasm_tree.specs.declared.instr.Instr.TheVariants as instr
-use Rattle.wasm_tree.specs.Spelled.{Joined, Each, Vector, Index, Signed, Locals, Instruction, type_byte}
+use Rattle.wasm_tree.specs.Spelled.{Joined, Each, Vector, Index, Signed, LocalRuns, most_open, Instruction, type_byte}
 use Rattle.wasm_reader.specs.declared.fault.Fault.{Fault}
 use Rattle.wasm_reader.specs.declared.form.Opening.TheVariants as opening
 use Rattle.wasm_reader.specs.declared.form.Indexed.TheVariants as indexed
 use Rattle.wasm_reader.specs.declared.form.Form.{Form}
 use Rattle.wasm_reader.specs.declared.form.Form.TheVariants as form
-use Rattle.wasm_reader.specs.Fault.{InTurn, OtherByte, NoNumber, NoIndex, NoVector, NoLocals, IsOpcode, IsResult, NoImmediate, NoInstruction, IsOpen, StrayElse, NoExpression, BodyContents, NoBody}
-use Rattle.wasm_reader.specs.Reading.{◌>>=◌, at, byte_at, fixed_at, index_at, signed_at, vector_at, filled_at, type_at, block_type_at, place_at, locals_at, form_of, rest_at, bare_instr, opening_instr, indexed_instr, instruction_at, follow_at, code_from, expression_at, body_at}
+use Rattle.wasm_reader.specs.Fault.{InTurn, OtherByte, NoNumber, NoIndex, NoVector, NoLocalRuns, IsOpcode, IsResult, NoImmediate, NoInstruction, IsOpen, StrayElse, IsTooDeep, TooDeep, NoExpression, BodyContents, NoBody}
+use Rattle.wasm_reader.specs.Reading.{◌>>=◌, at, byte_at, fixed_at, index_at, signed_at, vector_at, filled_at, type_at, block_type_at, place_at, local_runs_at, form_of, rest_at, bare_instr, opening_instr, indexed_instr, instruction_at, opens, room_at, follow_at, code_from, expression_at, body_at}
 use Rattle.wasm_reader.proofs.Steps.{ok_is}
 use Rattle.wasm_reader.proofs.Laws.{Taken, chosen, byte-spells, vector-spells}
 use Rattle.wasm_reader.proofs.NumberLaws.{index-spells}
-use Rattle.wasm_reader.proofs.PartLaws.{locals-spells}
+use Rattle.wasm_reader.proofs.PartLaws.{local_runs-spells}
 use Rattle.wasm_reader.proofs.Forms.{is_known, form-opcode}
-use Rattle.wasm_reader.proofs.CodeLaws.{Behind, of-instruction, to-instruction, instruction-spells, contents-spells, step}
+use Rattle.wasm_reader.proofs.CodeLaws.{Behind, of-instruction, to-instruction, instruction-spells, HasRoom, too_deep, room-found, room-to, contents-spells, step}
 use Rattle.wasm_reader.proofs.FaultLaws.{Breaks, bind_err, err_is, pure-breaks, then-breaks, map-breaks, missing_byte, other_byte, shorter, fixed-breaks, index-breaks, signed-breaks, vector-breaks, filled-breaks}
-use Rattle.wasm_reader.proofs.PartFaults.{type-breaks, locals-breaks, place-breaks}
+use Rattle.wasm_reader.proofs.PartFaults.{type-breaks, local_runs-breaks, place-breaks}
 
 head_is : (c b : ℕ) (bytes rest : List ℕ) → c ∷ bytes ≡ b ∷ rest → c ≡ b
 head_is c b bytes rest e = cc
@@ -193,73 +194,102 @@ follow-fails start arms i x e = absurd (cc e)
 opened : (l a : List Bool) (code : List Instr) (after : List Bool) → step false l ≡ step false a → IsOpen a code after → IsOpen l code after
 opened l a code after e h = subst (λ (y : List Bool). IsOpen y code after) (sym (ap (λ (q : Bool × List Bool). q.1) (ok_is (false, l) (false, a) e))) h
 
-follow-opens : (start : ℕ) (arms a : List Bool) (i : Instr) (code : List Instr) (after : List Bool) → follow_at start arms i ≡ Ok (false, a) → IsOpen a code after → IsOpen arms (i ∷ code) after
-follow-opens start [] a instr.End code after e h = absurd (cc (ap (λ (q : Bool × List Bool). q.0) (ok_is (true, []) (false, a) e)))
-follow-opens start (arm ∷ arms) a instr.End code after e h = opened arms a code after e h
-follow-opens start [] a instr.Else code after e h = absurd (cc e)
-follow-opens start (false ∷ arms) a instr.Else code after e h = absurd (cc e)
-follow-opens start (true ∷ arms) a instr.Else code after e h = opened (false ∷ arms) a code after e h
-follow-opens start arms a (instr.Block t) code after e h = opened (false ∷ arms) a code after e h
-follow-opens start arms a (instr.Loop t) code after e h = opened (false ∷ arms) a code after e h
-follow-opens start arms a (instr.If t) code after e h = opened (true ∷ arms) a code after e h
-follow-opens start arms a i code after e h = opened arms a code after e h
+follow-opens : (start : ℕ) (arms a : List Bool) (i : Instr) (code : List Instr) (after : List Bool) → HasRoom arms i → follow_at start arms i ≡ Ok (false, a) → IsOpen a code after → IsOpen arms (i ∷ code) after
+follow-opens start [] a instr.End code after room e h = absurd (cc (ap (λ (q : Bool × List Bool). q.0) (ok_is (true, []) (false, a) e)))
+follow-opens start (arm ∷ arms) a instr.End code after room e h = opened arms a code after e h
+follow-opens start [] a instr.Else code after room e h = absurd (cc e)
+follow-opens start (false ∷ arms) a instr.Else code after room e h = absurd (cc e)
+follow-opens start (true ∷ arms) a instr.Else code after room e h = opened (false ∷ arms) a code after e h
+follow-opens start arms a (instr.Block t) code after room e h = (room, opened (false ∷ arms) a code after e h)
+follow-opens start arms a (instr.Loop t) code after room e h = (room, opened (false ∷ arms) a code after e h)
+follow-opens start arms a (instr.If t) code after room e h = (room, opened (true ∷ arms) a code after e h)
+follow-opens start arms a i code after room e h = opened arms a code after e h
+
+-- what fails where these sequences are open
+abbrev Stops : List Bool → Fault → List ℕ → Type 0
+Stops arms x back = TooDeep arms x.rule x.left back ⊎ ((IsTooDeep arms back → ⊥) × (NoInstruction x.rule x.left back ⊎ StrayElse arms x.rule x.left back))
 
 abbrev From : List Bool → Fault → List ℕ → Type 0
-From arms x bytes = (code : List Instr) × (after : List Bool) × IsOpen arms code after × Joined (Each Instruction code) (λ back. NoInstruction x.rule x.left back ⊎ StrayElse after x.rule x.left back) bytes
+From arms x bytes = (code : List Instr) × (after : List Bool) × IsOpen arms code after × Joined (Each Instruction code) (Stops after x) bytes
 
-at_once : (arms : List Bool) (x : Fault) (bytes : List ℕ) → NoInstruction x.rule x.left bytes ⊎ StrayElse arms x.rule x.left bytes → From arms x bytes
+at_once : (arms : List Bool) (x : Fault) (bytes : List ℕ) → Stops arms x bytes → From arms x bytes
 at_once [] x bytes h = ([], [], refl, record { front = []; back = bytes; whole = refl; first = refl; second = h })
 at_once (arm ∷ arms) x bytes h = ([], arm ∷ arms, refl, record { front = []; back = bytes; whole = refl; first = refl; second = h })
+
+room-fails : (arms : List Bool) (bytes : List ℕ) (x : Fault) → room_at arms bytes ≡ Err x → From arms x bytes × (x.left ≤ length bytes)
+unfolding room_at
+room-fails arms bytes x e =
+    elim (chosen (leb most_open (length arms) && opens bytes) (Err (at rule.Limit (length bytes))) (Ok tt) (Err x) e) [
+      | inl h ↦
+          subst (λ (y : Fault). From arms y bytes × (y.left ≤ length bytes)) (err_is (at rule.Limit (length bytes)) x h.1)
+          (at_once arms (at rule.Limit (length bytes)) bytes (inl (refl, refl, too_deep arms bytes h.0)), omega arith)
+      | inr h ↦ absurd (cc h.1)
+    ]
 
 takes_some : (i : Instr) (front : List ℕ) → Instruction i front → 0 < length front
 takes_some i front h =
     let p = of-instruction i front h in
     omega (arith, ap length (p.1.whole ∙ ap (λ (l : List ℕ). l ++ p.1.back) p.1.first))
 
-code-both : (n : ℕ) (arms : List Bool) (bytes : List ℕ) (x : Fault) → length bytes ≤ n → code_from n arms bytes ≡ Err x → From arms x bytes × (x.left ≤ length bytes)
+abbrev Located : ℕ → Type 0
+Located n = (arms : List Bool) (bytes : List ℕ) (x : Fault) → length bytes ≤ n → code_from n arms bytes ≡ Err x → From arms x bytes × (x.left ≤ length bytes)
+
+-- what is read behind an instruction
+abbrev behind_at : ℕ → List Bool → List ℕ → Instr → List ℕ → Result (List Instr × List ℕ) Fault
+behind_at n arms bytes i rest = follow_at (length bytes) arms i >>= λ s. cond s.0 (Ok (i ∷ [], rest)) (code_from n s.1 rest >>= λ more. Ok (i ∷ more.0, more.1))
+
+behind-both : (n : ℕ) → Located n → (arms : List Bool) (bytes : List ℕ) (x : Fault) (i : Instr) (rest : List ℕ) → length bytes ≤ suc n → (IsTooDeep arms bytes → ⊥) → Taken Instruction bytes i rest → behind_at n arms bytes i rest ≡ Err x
+    → From arms x bytes × (x.left ≤ length bytes)
+behind-both n located arms bytes x i rest le shallow t e =
+    elim (bind_err (follow_at (length bytes) arms i) (λ s. cond s.0 (Ok (i ∷ [], rest)) (code_from n s.1 rest >>= λ more. Ok (i ∷ more.0, more.1))) x e) [
+      | inl k ↦
+          let f = follow-fails (length bytes) arms i x k in
+          let else_is : t.front ≡ 0x05 ∷ [] = subst (λ (j : Instr). Instruction j t.front) f.0 t.spelled in
+          let stray = f.2 bytes rest refl (t.whole ∙ ap (λ (l : List ℕ). l ++ rest) else_is) in
+          subst (λ (y : Fault). From arms y bytes × (y.left ≤ length bytes)) (sym f.1) (at_once arms (at rule.Opcode (length bytes)) bytes (inr (shallow, inr stray)), omega arith)
+      | inr k ↦
+          elim (chosen k.0.0 (Ok (i ∷ [], rest)) (code_from n k.0.1 rest >>= λ more. Ok (i ∷ more.0, more.1)) (Err x) k.2) [
+            | inl l ↦ absurd (cc l.1)
+            | inr l ↦
+                elim (bind_err (code_from n k.0.1 rest) (λ more. Ok (i ∷ more.0, more.1)) x l.1) [
+                  | inl m ↦
+                      let follows : follow_at (length bytes) arms i ≡ Ok (false, k.0.1) = k.1 ∙ ap (λ (b : Bool). step b k.0.1) l.0 in
+                      let room : HasRoom arms i = room-to arms i t.front rest t.spelled (λ d. shallow (subst (IsTooDeep arms) (sym t.whole) d)) in
+                      let less : length rest ≤ n = omega (arith, ap length t.whole, length-append t.front rest, takes_some i t.front t.spelled) in
+                      let so = located k.0.1 rest x less m in
+                      let j = so.0.3 in (
+                        (
+                          i ∷ so.0.0,
+                          so.0.1,
+                          follow-opens (length bytes) arms k.0.1 i so.0.0 so.0.1 room follows so.0.2,
+                          record {
+                            front = t.front ++ j.front;
+                            back = j.back;
+                            whole = t.whole ∙ ap (λ (r : List ℕ). t.front ++ r) j.whole ∙ sym (append_assoc t.front j.front j.back);
+                            first = record { front = t.front; back = j.front; whole = refl; first = t.spelled; second = j.first };
+                            second = j.second;
+                          },
+                        ),
+                        shorter bytes t.front rest x.left t.whole so.1,
+                      )
+                  | inr m ↦ absurd (cc m.2)
+                ]
+          ]
+    ]
+
+code-both : (n : ℕ) → Located n
 unfolding code_from
 code-both zero arms [] x le e =
-    subst (λ (y : Fault). From arms y [] × (y.left ≤ 0)) (err_is (at rule.Size 0) x e) (at_once arms (at rule.Size 0) [] (inl (inl (refl, refl))), omega arith)
+    subst (λ (y : Fault). From arms y [] × (y.left ≤ 0)) (err_is (at rule.Size 0) x e) (at_once arms (at rule.Size 0) [] (inr (λ d. d, inl (inl (refl, refl)))), omega arith)
 code-both zero arms (b ∷ bytes) x le e = absurd (omega arith)
 code-both (suc n) arms bytes x le e =
-    elim (bind_err (instruction_at bytes) (λ i. follow_at (length bytes) arms i.0 >>= λ s. cond s.0 (Ok (i.0 ∷ [], i.1)) (code_from n s.1 i.1 >>= λ more. Ok (i.0 ∷ more.0, more.1))) x e) [
-      | inl h ↦ (at_once arms x bytes (inl (instruction-breaks.fails bytes x h)), instruction-breaks.within bytes x h)
-      | inr h ↦
-          let i : Instr = h.0.0 in
-          let t = instruction-spells.found bytes i h.0.1 h.1 in
-          elim (bind_err (follow_at (length bytes) arms i) (λ s. cond s.0 (Ok (i ∷ [], h.0.1)) (code_from n s.1 h.0.1 >>= λ more. Ok (i ∷ more.0, more.1))) x h.2) [
-            | inl k ↦
-                let f = follow-fails (length bytes) arms i x k in
-                let else_is : t.front ≡ 0x05 ∷ [] = subst (λ (j : Instr). Instruction j t.front) f.0 t.spelled in
-                let stray = f.2 bytes h.0.1 refl (t.whole ∙ ap (λ (l : List ℕ). l ++ h.0.1) else_is) in
-                subst (λ (y : Fault). From arms y bytes × (y.left ≤ length bytes)) (sym f.1) (at_once arms (at rule.Opcode (length bytes)) bytes (inr stray), omega arith)
-            | inr k ↦
-                elim (chosen k.0.0 (Ok (i ∷ [], h.0.1)) (code_from n k.0.1 h.0.1 >>= λ more. Ok (i ∷ more.0, more.1)) (Err x) k.2) [
-                  | inl l ↦ absurd (cc l.1)
-                  | inr l ↦
-                      elim (bind_err (code_from n k.0.1 h.0.1) (λ more. Ok (i ∷ more.0, more.1)) x l.1) [
-                        | inl m ↦
-                            let follows : follow_at (length bytes) arms i ≡ Ok (false, k.0.1) = k.1 ∙ ap (λ (b : Bool). step b k.0.1) l.0 in
-                            let less : length h.0.1 ≤ n = omega (arith, ap length t.whole, length-append t.front h.0.1, takes_some i t.front t.spelled) in
-                            let so = code-both n k.0.1 h.0.1 x less m in
-                            let j = so.0.3 in (
-                              (
-                                i ∷ so.0.0,
-                                so.0.1,
-                                follow-opens (length bytes) arms k.0.1 i so.0.0 so.0.1 follows so.0.2,
-                                record {
-                                  front = t.front ++ j.front;
-                                  back = j.back;
-                                  whole = t.whole ∙ ap (λ (r : List ℕ). t.front ++ r) j.whole ∙ sym (append_assoc t.front j.front j.back);
-                                  first = record { front = t.front; back = j.front; whole = refl; first = t.spelled; second = j.first };
-                                  second = j.second;
-                                },
-                              ),
-                              shorter bytes t.front h.0.1 x.left t.whole so.1,
-                            )
-                        | inr m ↦ absurd (cc m.2)
-                      ]
-                ]
+    elim (bind_err (room_at arms bytes) (λ _. instruction_at bytes >>= λ i. behind_at n arms bytes i.0 i.1) x e) [
+      | inl r ↦ room-fails arms bytes x r
+      | inr r ↦
+          let shallow : IsTooDeep arms bytes → ⊥ = room-found arms bytes r.1 in
+          elim (bind_err (instruction_at bytes) (λ i. behind_at n arms bytes i.0 i.1) x r.2) [
+            | inl h ↦ (at_once arms x bytes (inr (shallow, inl (instruction-breaks.fails bytes x h))), instruction-breaks.within bytes x h)
+            | inr h ↦ behind-both n (code-both n) arms bytes x h.0.0 h.0.1 le shallow (instruction-spells.found bytes h.0.0 h.0.1 h.1) h.2
           ]
     ]
 
@@ -270,8 +300,8 @@ expression-breaks = record { fails = λ bytes x e. (code-both (length bytes) [] 
 pub body-breaks : Breaks NoBody (filled_at body_at)
 unfolding body_at
 body-breaks =
-    filled-breaks BodyContents (InTurn (NoVector Locals NoLocals) (Vector Locals) (λ _. NoExpression)) body_at (λ bytes x rest e. contents-spells.found bytes x rest e)
-    (then-breaks (NoVector Locals NoLocals) (Vector Locals) (λ _. NoExpression) (vector_at locals_at) (λ whole locals rest. expression_at rest >>= λ code. Ok (made locals code.0, code.1)) (vector-spells Locals locals_at index-spells locals-spells)
-    (vector-breaks Locals NoLocals locals_at locals-spells locals-breaks) (λ whole locals. map-breaks (made locals) NoExpression expression_at expression-breaks)) where
+    filled-breaks BodyContents (InTurn NoLocalRuns LocalRuns (λ _. NoExpression)) body_at (λ bytes x rest e. contents-spells.found bytes x rest e)
+    (then-breaks NoLocalRuns LocalRuns (λ _. NoExpression) local_runs_at (λ whole locals rest. expression_at rest >>= λ code. Ok (made locals code.0, code.1)) local_runs-spells
+    local_runs-breaks (λ whole locals. map-breaks (made locals) NoExpression expression_at expression-breaks)) where
       made : List LocalRun → List Instr → FuncBody
       made locals code = record { locals = locals; code = code }

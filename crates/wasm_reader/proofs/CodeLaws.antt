@@ -1,7 +1,9 @@
 -- The same for instructions and for code.
-use Rattle.std.proofs.Common.{◌≡◌, ℕ, zero, suc, ◌+◌, ◌≤◌, Bool, true, false, cond, eqb, List, [], ◌∷◌, ◌++◌, length, Option, Some, None, Result, Ok, refl, sym, ap, subst, ◌∙◌, append_assoc, arith, ◌⊎◌, inl, inr}
+use Rattle.std.proofs.Common.{◌≡◌, ℕ, zero, suc, ◌+◌, ◌≤◌, ◌<◌, Bool, true, false, cond, eqb, leb, List, [], ◌∷◌, ◌++◌, length, Option, Some, None, Result, Ok, refl, sym, ap, subst, ◌∙◌, append_assoc, arith, ◌⊎◌, inl, inr}
+use Rattle.std.proofs.Math.Nat.{eq-or-lt_of_le}
 use Rattle.std.proofs.lemmas.List.{append-nil, length-append}
-use Rattle.std.proofs.lemmas.Bool.{eqb-true}
+use Rattle.std.specs.Prelude.{◌&&◌}
+use Rattle.std.proofs.lemmas.Bool.{eqb-true, leb-true, le-leb, cases_Bool, cases_lt}
 use Rattle.wasm_tree.specs.declared.failure.ModuleRule.TheVariants as rule
 use Rattle.wasm_tree.specs.declared.module.ValType.{ValType}
 use Rattle.wasm_tree.specs.declared.module.ValType.TheVariants.{I32, I64}
@@ -9,7 +11,7 @@ use Rattle.wasm_tree.specs.declared.module.FuncBody.{FuncBody}
 use Rattle.wasm_tree.specs.declared.instr.Instr.{Instr}
 use Rattle.wasm_tree.specs.declared.instr.Instr.TheVariants as instr
 use Rattle.wasm_tree.specs.Opcode.{load_opcode, store_opcode, test_opcode, compare_opcode, unary_opcode, binary_opcode, convert_opcode}
-use Rattle.wasm_tree.specs.Spelled.{Joined, Begins, Each, Index, Signed, Vector, Place, Locals, Body, result_byte, Instruction, IsClosed, Expression}
+use Rattle.wasm_tree.specs.Spelled.{Joined, Begins, Each, Index, Signed, Vector, Place, LocalRuns, Body, result_byte, Instruction, most_open, IsClosed, Expression}
 use Rattle.wasm_reader.specs.declared.fault.Fault.{Fault}
 use Rattle.wasm_reader.specs.declared.form.Bare.{Bare}
 use Rattle.wasm_reader.specs.declared.form.Bare.TheVariants as bare
@@ -19,11 +21,12 @@ use Rattle.wasm_reader.specs.declared.form.Indexed.{Indexed}
 use Rattle.wasm_reader.specs.declared.form.Indexed.TheVariants as indexed
 use Rattle.wasm_reader.specs.declared.form.Form.{Form}
 use Rattle.wasm_reader.specs.declared.form.Form.TheVariants as form
-use Rattle.wasm_reader.specs.Reading.{◌>>=◌, at, byte_at, index_at, signed_at, vector_at, filled_at, type_at, block_type_at, place_at, locals_at, form_of, rest_at, bare_instr, opening_instr, indexed_instr, instruction_at, follow_at, code_from, expression_at, body_at}
+use Rattle.wasm_reader.specs.Fault.{IsTooDeep}
+use Rattle.wasm_reader.specs.Reading.{◌>>=◌, at, byte_at, index_at, signed_at, vector_at, filled_at, type_at, block_type_at, place_at, local_runs_at, form_of, rest_at, bare_instr, opening_instr, indexed_instr, instruction_at, opens, room_at, follow_at, code_from, expression_at, body_at}
 use Rattle.wasm_reader.proofs.Steps.{ok_is}
 use Rattle.wasm_reader.proofs.Laws.{Taken, Spells, Then, Mapped, bind_ok, chosen, then-spells, map-spells, as-spells, byte-spells, none-spells, begins-spells, vector-spells, filled-spells, fills}
-use Rattle.wasm_reader.proofs.NumberLaws.{index-spells, signed-spells}
-use Rattle.wasm_reader.proofs.PartLaws.{pure-spells, alone, type-spells, locals-spells, place-spells}
+use Rattle.wasm_reader.proofs.NumberLaws.{both_true, index-spells, signed-spells}
+use Rattle.wasm_reader.proofs.PartLaws.{pure-spells, alone, type-spells, local_runs-spells, place-spells}
 use Rattle.wasm_reader.proofs.Forms.{bare_opcode, opening_opcode, indexed_opcode, opcode_of, is_known, form-opcode, bare-form, load-form, store-form, opening-form, indexed-form, other-forms}
 
 -- ---- the result of a sequence
@@ -180,6 +183,87 @@ instruction-spells =
     (λ i bytes h. to-instruction i h.0 (form_of h.0) h.1.back bytes (form-opcode h.0) (h.1.whole ∙ ap (λ (l : List ℕ). l ++ h.1.back) h.1.first) h.1.second)
     of-instruction
 
+-- ---- how deep sequences stand
+
+-- the instruction opens no sequence, or there is room for one more
+abbrev pub HasRoom : List Bool → Instr → Type 0
+HasRoom arms (instr.Block t) = length arms < most_open
+HasRoom arms (instr.Loop t) = length arms < most_open
+HasRoom arms (instr.If t) = length arms < most_open
+HasRoom arms _ = Unit {0}
+
+three : (b : ℕ) → 0x02 ≤ b → b ≤ 0x04 → (b ≡ 0x02) ⊎ ((b ≡ 0x03) ⊎ (b ≡ 0x04))
+three b low high =
+    elim (eq-or-lt_of_le low) [
+      | inl e ↦ inl (sym e)
+      | inr above ↦
+          elim (eq-or-lt_of_le high) [
+            | inl e ↦ inr (inr e)
+            | inr below ↦ inr (inl (omega arith))
+          ]
+    ]
+
+pub too_deep : (arms : List Bool) (bytes : List ℕ) → (leb most_open (length arms) && opens bytes) ≡ true → IsTooDeep arms bytes
+unfolding opens
+too_deep arms [] e = absurd (cc (both_true (leb most_open (length arms)) false e).1)
+too_deep arms (b ∷ bytes) e =
+    let t = both_true (leb most_open (length arms)) (leb 0x02 b && leb b 0x04) e in
+    let u = both_true (leb 0x02 b) (leb b 0x04) t.1 in
+    (leb-true _ _ t.0, three b (leb-true _ _ u.0) (leb-true _ _ u.1))
+
+is_deep : (arms : List Bool) (bytes : List ℕ) → IsTooDeep arms bytes → (leb most_open (length arms) && opens bytes) ≡ true
+unfolding opens
+is_deep arms [] d = absurd d
+is_deep arms (b ∷ bytes) (le, inl e) = rw (le-leb most_open (length arms) le, e) refl
+is_deep arms (b ∷ bytes) (le, inr (inl e)) = rw (le-leb most_open (length arms) le, e) refl
+is_deep arms (b ∷ bytes) (le, inr (inr e)) = rw (le-leb most_open (length arms) le, e) refl
+
+pub room-found : (arms : List Bool) (bytes : List ℕ) → room_at arms bytes ≡ Ok tt → IsTooDeep arms bytes → ⊥
+unfolding room_at
+room-found arms bytes e d = absurd (cc (rw (is_deep arms bytes d) at e))
+
+pub room-again : (arms : List Bool) (bytes : List ℕ) → (IsTooDeep arms bytes → ⊥) → room_at arms bytes ≡ Ok tt
+unfolding room_at
+room-again arms bytes shallow =
+    elim (cases_Bool (leb most_open (length arms) && opens bytes)) [
+      | inl h ↦ absurd (shallow (too_deep arms bytes h))
+      | inr h ↦ rw h refl
+    ]
+
+has_room : (arms : List Bool) (b : ℕ) (rest : List ℕ) → (b ≡ 0x02) ⊎ ((b ≡ 0x03) ⊎ (b ≡ 0x04)) → (IsTooDeep arms (b ∷ rest) → ⊥) → length arms < most_open
+has_room arms b rest is shallow =
+    elim (cases_lt (length arms) most_open) [
+      | inl lt ↦ lt
+      | inr le ↦ absurd (shallow (le, is))
+    ]
+
+-- where sequences don't stand too deep before an instruction, it has room, and the other way round
+pub room-to : (arms : List Bool) (i : Instr) (front rest : List ℕ) → Instruction i front → (IsTooDeep arms (front ++ rest) → ⊥) → HasRoom arms i
+room-to arms (instr.Block t) front rest h shallow = has_room arms 0x02 (result_byte t ∷ rest) (inl refl) (rw h at shallow)
+room-to arms (instr.Loop t) front rest h shallow = has_room arms 0x03 (result_byte t ∷ rest) (inr (inl refl)) (rw h at shallow)
+room-to arms (instr.If t) front rest h shallow = has_room arms 0x04 (result_byte t ∷ rest) (inr (inr refl)) (rw h at shallow)
+room-to arms i front rest h shallow = tt
+
+no_room : (arms : List Bool) (f : Opening) (b : ℕ) (i : Instr) (back : List ℕ) → most_open ≤ length arms → HasRoom arms i → b ≡ opening_opcode f → Behind (form_of b) i back → ⊥
+no_room arms f b i back le room e h = full f (subst (λ (x : Form). Behind x i back) (ap form_of e ∙ opening-form f) h) where
+  full : (f : Opening) → Mapped (opening_instr f) IsResult i back → ⊥
+  full opening.Block m = let lt : length arms < most_open = subst (HasRoom arms) m.1 room in absurd (omega arith)
+  full opening.Loop m = let lt : length arms < most_open = subst (HasRoom arms) m.1 room in absurd (omega arith)
+  full opening.If m = let lt : length arms < most_open = subst (HasRoom arms) m.1 room in absurd (omega arith)
+
+pub room-of : (arms : List Bool) (i : Instr) (front rest : List ℕ) → Instruction i front → HasRoom arms i → IsTooDeep arms (front ++ rest) → ⊥
+room-of arms i front rest h room deep =
+    let p = of-instruction i front h in
+    let d = subst (λ (l : List ℕ). IsTooDeep arms (l ++ rest)) (p.1.whole ∙ ap (λ (l : List ℕ). l ++ p.1.back) p.1.first) deep in
+    elim d.1 [
+      | inl e ↦ no_room arms opening.Block p.0 i p.1.back d.0 room e p.1.second
+      | inr k ↦
+          elim k [
+            | inl e ↦ no_room arms opening.Loop p.0 i p.1.back d.0 room e p.1.second
+            | inr e ↦ no_room arms opening.If p.0 i p.1.back d.0 room e p.1.second
+          ]
+    ]
+
 -- ---- code
 
 abbrev Coded : List Bool → List Instr → List ℕ → Type 0
@@ -211,16 +295,16 @@ follow-ends start arms a (instr.Loop t) e = absurd (no_end (false ∷ arms) a e)
 follow-ends start arms a (instr.If t) e = absurd (no_end (true ∷ arms) a e)
 follow-ends start arms a i e = absurd (no_end arms a e)
 
-follow-goes : (start : ℕ) (arms a : List Bool) (i : Instr) (code : List Instr) → follow_at start arms i ≡ Ok (false, a) → IsClosed a code → IsClosed arms (i ∷ code)
-follow-goes start [] a instr.End code e h = absurd (no_more [] a e)
-follow-goes start (arm ∷ arms) a instr.End code e h = kept arms a code e h
-follow-goes start [] a instr.Else code e h = absurd cc
-follow-goes start (false ∷ arms) a instr.Else code e h = absurd cc
-follow-goes start (true ∷ arms) a instr.Else code e h = kept (false ∷ arms) a code e h
-follow-goes start arms a (instr.Block t) code e h = kept (false ∷ arms) a code e h
-follow-goes start arms a (instr.Loop t) code e h = kept (false ∷ arms) a code e h
-follow-goes start arms a (instr.If t) code e h = kept (true ∷ arms) a code e h
-follow-goes start arms a i code e h = kept arms a code e h
+follow-goes : (start : ℕ) (arms a : List Bool) (i : Instr) (code : List Instr) → HasRoom arms i → follow_at start arms i ≡ Ok (false, a) → IsClosed a code → IsClosed arms (i ∷ code)
+follow-goes start [] a instr.End code room e h = absurd (no_more [] a e)
+follow-goes start (arm ∷ arms) a instr.End code room e h = kept arms a code e h
+follow-goes start [] a instr.Else code room e h = absurd cc
+follow-goes start (false ∷ arms) a instr.Else code room e h = absurd cc
+follow-goes start (true ∷ arms) a instr.Else code room e h = kept (false ∷ arms) a code e h
+follow-goes start arms a (instr.Block t) code room e h = (room, kept (false ∷ arms) a code e h)
+follow-goes start arms a (instr.Loop t) code room e h = (room, kept (false ∷ arms) a code e h)
+follow-goes start arms a (instr.If t) code room e h = (room, kept (true ∷ arms) a code e h)
+follow-goes start arms a i code room e h = kept arms a code e h
 
 follow-again : (start : ℕ) (arms : List Bool) (i : Instr) (code : List Instr) → IsClosed arms (i ∷ code)
     → ((follow_at start arms i ≡ Ok (true, [])) × (code ≡ [])) ⊎ ((a : List Bool) × (follow_at start arms i ≡ Ok (false, a)) × IsClosed a code)
@@ -229,16 +313,26 @@ follow-again start (arm ∷ arms) instr.End code h = inr (arms, refl, h)
 follow-again start [] instr.Else code h = absurd h
 follow-again start (false ∷ arms) instr.Else code h = absurd h
 follow-again start (true ∷ arms) instr.Else code h = inr (false ∷ arms, refl, h)
-follow-again start arms (instr.Block t) code h = inr (false ∷ arms, refl, h)
-follow-again start arms (instr.Loop t) code h = inr (false ∷ arms, refl, h)
-follow-again start arms (instr.If t) code h = inr (true ∷ arms, refl, h)
+follow-again start arms (instr.Block t) code h = inr (false ∷ arms, refl, h.1)
+follow-again start arms (instr.Loop t) code h = inr (false ∷ arms, refl, h.1)
+follow-again start arms (instr.If t) code h = inr (true ∷ arms, refl, h.1)
 follow-again start arms i code h = inr (arms, refl, h)
+
+closed-room : (arms : List Bool) (i : Instr) (code : List Instr) → IsClosed arms (i ∷ code) → HasRoom arms i
+closed-room [] (instr.Block t) code h = h.0
+closed-room (arm ∷ arms) (instr.Block t) code h = h.0
+closed-room [] (instr.Loop t) code h = h.0
+closed-room (arm ∷ arms) (instr.Loop t) code h = h.0
+closed-room [] (instr.If t) code h = h.0
+closed-room (arm ∷ arms) (instr.If t) code h = h.0
+closed-room arms i code h = tt
 
 code-found : (n : ℕ) (arms : List Bool) (bytes : List ℕ) (code : List Instr) (rest : List ℕ) → code_from n arms bytes ≡ Ok (code, rest) → Taken (Coded arms) bytes code rest
 unfolding code_from
 code-found zero arms bytes code rest e = absurd cc
 code-found (suc n) arms bytes code rest e =
-    let a = bind_ok (instruction_at bytes) (λ i. follow_at (length bytes) arms i.0 >>= λ s. cond s.0 (Ok (i.0 ∷ [], i.1)) (code_from n s.1 i.1 >>= λ more. Ok (i.0 ∷ more.0, more.1))) (code, rest) e in
+    let r = bind_ok (room_at arms bytes) (λ _. instruction_at bytes >>= λ i. follow_at (length bytes) arms i.0 >>= λ s. cond s.0 (Ok (i.0 ∷ [], i.1)) (code_from n s.1 i.1 >>= λ more. Ok (i.0 ∷ more.0, more.1))) (code, rest) e in
+    let a = bind_ok (instruction_at bytes) (λ i. follow_at (length bytes) arms i.0 >>= λ s. cond s.0 (Ok (i.0 ∷ [], i.1)) (code_from n s.1 i.1 >>= λ more. Ok (i.0 ∷ more.0, more.1))) (code, rest) r.2 in
     let i : Instr = a.0.0 in
     let s = bind_ok (follow_at (length bytes) arms i) (λ s. cond s.0 (Ok (i ∷ [], a.0.1)) (code_from n s.1 a.0.1 >>= λ more. Ok (i ∷ more.0, more.1))) (code, rest) a.2 in
     let t = instruction-spells.found bytes i a.0.1 a.1 in
@@ -252,12 +346,13 @@ code-found (suc n) arms bytes code rest e =
           let follows : follow_at (length bytes) arms i ≡ Ok (false, s.0.1) = s.1 ∙ ap (λ (b : Bool). step b s.0.1) h.0 in
           let m = bind_ok (code_from n s.0.1 a.0.1) (λ more. Ok (i ∷ more.0, more.1)) (code, rest) h.1 in
           let u = code-found n s.0.1 a.0.1 m.0.0 m.0.1 m.1 in
+          let room : HasRoom arms i = room-to arms i t.front a.0.1 t.spelled (λ d. room-found arms bytes r.1 (subst (IsTooDeep arms) (sym t.whole) d)) in
           let both : Each Instruction (i ∷ m.0.0) (t.front ++ u.front) = record { front = t.front; back = u.front; whole = refl; first = t.spelled; second = u.spelled.0 } in
           subst (λ (q : List Instr × List ℕ). Taken (Coded arms) bytes q.0 q.1) (ok_is (i ∷ m.0.0, m.0.1) (code, rest) m.2)
           (record {
             front = t.front ++ u.front;
             whole = t.whole ∙ ap (λ (r : List ℕ). t.front ++ r) u.whole ∙ sym (append_assoc t.front u.front m.0.1);
-            spelled = (both, follow-goes (length bytes) arms s.0.1 i m.0.0 follows u.spelled.1);
+            spelled = (both, follow-goes (length bytes) arms s.0.1 i m.0.0 room follows u.spelled.1);
           })
     ]
 
@@ -272,14 +367,15 @@ code-again zero arms (i ∷ code) front rest le h closed = absurd (omega arith)
 code-again (suc n) arms (i ∷ code) front rest le h closed =
     let regrouped : front ++ rest ≡ h.front ++ (h.back ++ rest) = ap (λ (l : List ℕ). l ++ rest) h.whole ∙ append_assoc h.front h.back rest in
     let one : instruction_at (front ++ rest) ≡ Ok (i, h.back ++ rest) = ap instruction_at regrouped ∙ instruction-spells.again i h.front (h.back ++ rest) h.first in
+    let room : room_at arms (front ++ rest) ≡ Ok tt = room-again arms (front ++ rest) (λ d. room-of arms i h.front (h.back ++ rest) h.first (closed-room arms i code closed) (subst (IsTooDeep arms) regrouped d)) in
     elim (follow-again (length (front ++ rest)) arms i code closed) [
       | inl k ↦
           let none : h.back ≡ [] = subst (λ (l : List Instr). Each Instruction l h.back) k.1 h.second in
           let two : h.back ++ rest ≡ rest = ap (λ (l : List ℕ). l ++ rest) none in
-          rw (one, k.0, k.1, two) refl
+          rw (room, one, k.0, k.1, two) refl
       | inr k ↦
           let more : code_from n k.0 (h.back ++ rest) ≡ Ok (code, rest) = code-again n k.0 code h.back rest (omega arith) h.second k.2 in
-          rw (one, k.1, more) refl
+          rw (room, one, k.1, more) refl
     ]
 
 each-length : (code : List Instr) (bytes : List ℕ) → Each Instruction code bytes → length code ≤ length bytes
@@ -302,18 +398,18 @@ expression-spells = record {
 }
 
 abbrev pub Contents : FuncBody → List ℕ → Type 0
-Contents body = Joined (Vector Locals body.locals) (Expression body.code)
+Contents body = Joined (LocalRuns body.locals) (Expression body.code)
 
 pub contents-spells : Spells Contents body_at
 unfolding body_at
 contents-spells =
     as-spells _ Contents body_at
-    (then-spells (Vector Locals) _ (vector_at locals_at) (λ whole locals rest. expression_at rest >>= λ code. Ok (record { locals = locals; code = code.0 }, code.1)) (vector-spells Locals locals_at index-spells locals-spells)
+    (then-spells LocalRuns _ local_runs_at (λ whole locals rest. expression_at rest >>= λ code. Ok (record { locals = locals; code = code.0 }, code.1)) local_runs-spells
     (λ whole locals. map-spells (λ code. record { locals = locals; code = code }) Expression expression_at expression-spells))
     to
     (λ x bytes h. (x.locals, record { front = h.front; back = h.back; whole = h.whole; first = h.first; second = (x.code, refl, h.second) }))
   where
-    to : (x : FuncBody) (bytes : List ℕ) → Then (Vector Locals) (λ locals. Mapped (λ code. record { locals = locals; code = code }) Expression) x bytes → Contents x bytes
+    to : (x : FuncBody) (bytes : List ℕ) → Then LocalRuns (λ locals. Mapped (λ code. record { locals = locals; code = code }) Expression) x bytes → Contents x bytes
     to x bytes (locals, h) = rw h.second.1 (record { front = h.front; back = h.back; whole = h.whole; first = h.first; second = h.second.2 })
 
 pub body-spells : Spells Body (filled_at body_at)

@@ -1,6 +1,8 @@
 -- The same for types, entries, instructions and code.
-use Rattle.std.proofs.Common.{◌≡◌, ℕ, Bool, true, false, List, [], ◌∷◌, Option, Some, None, Result, Ok, Err, arith, ℤ, ◌⊎◌, inl, inr}
+use Rattle.std.proofs.Common.{◌≡◌, ℕ, zero, suc, ◌+◌, ◌≤◌, ◌<◌, Bool, true, false, cond, ltb, List, [], ◌∷◌, ◌++◌, length, Option, Some, None, Result, Ok, Err, refl, sym, ap, subst, ◌∙◌, append_assoc, arith, ℤ, ◌⊎◌, inl, inr}
+use Rattle.std.proofs.lemmas.Bool.{ltb-true, ltb-false}
 use Rattle.wasm_tree.specs.declared.failure.ModuleRule.{ModuleRule}
+use Rattle.wasm_tree.specs.declared.failure.ModuleRule.TheVariants as rule
 use Rattle.wasm_tree.specs.declared.module.ValType.{ValType}
 use Rattle.wasm_tree.specs.declared.module.ValType.TheVariants.{I32, I64}
 use Rattle.wasm_tree.specs.declared.module.FuncType.{FuncType}
@@ -8,17 +10,18 @@ use Rattle.wasm_tree.specs.declared.module.Limits.{Limits}
 use Rattle.wasm_tree.specs.declared.module.ImportKind.TheVariants as imported
 use Rattle.wasm_tree.specs.declared.module.ExportKind.TheVariants as exported
 use Rattle.wasm_tree.specs.declared.module.GlobalVar.{GlobalVar}
+use Rattle.wasm_tree.specs.declared.module.LocalRun.{LocalRun}
 use Rattle.wasm_tree.specs.declared.module.Segment.{Segment}
 use Rattle.wasm_tree.specs.declared.instr.Instr.{Instr}
 use Rattle.wasm_tree.specs.declared.instr.Instr.TheVariants as instr
-use Rattle.wasm_tree.specs.Spelled.{Begins, Vector, Index, Signed, Name, Type_of_value, Instruction, type_byte, mutable_byte, IsConstant}
+use Rattle.wasm_tree.specs.Spelled.{Joined, Begins, Each, Vector, Index, Signed, Name, Type_of_value, Locals, most_locals, count_of_locals, Instruction, type_byte, mutable_byte, IsConstant}
 use Rattle.wasm_reader.specs.declared.fault.Fault.{Fault}
-use Rattle.wasm_reader.specs.Fault.{InTurn, OtherByte, Behind, NoNumber, NoIndex, NoVector, NoText, NoName, NoType, NoFunctionType, NoMemory, NoImportKind, NoExportKind, NoImport, NoExport, NoConstant, NoGlobal, NoData, NoLocals}
-use Rattle.wasm_reader.specs.Reading.{◌>>=◌, fixed_at, index_at, signed_at, vector_at, text_at, name_at, type_at, place_at, function_type_at, memory_at, import_kind_at, import_at, export_kind_at, export_at, mutable_at, constant_at, global_at, segment_at, locals_at}
-use Rattle.wasm_reader.proofs.Laws.{vector-spells}
+use Rattle.wasm_reader.specs.Fault.{InTurn, OtherByte, Behind, NoNumber, NoIndex, NoVector, NoText, NoName, NoType, NoFunctionType, NoMemory, NoImportKind, NoExportKind, NoImport, NoExport, NoConstant, NoGlobal, NoData, NoLocals, NoLocalRuns}
+use Rattle.wasm_reader.specs.Reading.{◌>>=◌, at, Reader, fixed_at, index_at, signed_at, vector_at, text_at, name_at, type_at, place_at, function_type_at, memory_at, import_kind_at, import_at, export_kind_at, export_at, mutable_at, constant_at, global_at, segment_at, locals_at, runs_from, local_runs_at}
+use Rattle.wasm_reader.proofs.Laws.{chosen, vector-spells}
 use Rattle.wasm_reader.proofs.NumberLaws.{index-spells, signed-spells}
-use Rattle.wasm_reader.proofs.PartLaws.{type-spells, name-spells, mutable-spells, constant-spells}
-use Rattle.wasm_reader.proofs.FaultLaws.{Breaks, bind_err, as-breaks, pure-breaks, then-breaks, map-breaks, fixed-breaks, behind-breaks, two-breaks, index-breaks, signed-breaks, vector-breaks, text-breaks, name-breaks}
+use Rattle.wasm_reader.proofs.PartLaws.{type-spells, name-spells, mutable-spells, constant-spells, count-cons, locals-spells}
+use Rattle.wasm_reader.proofs.FaultLaws.{Breaks, bind_err, err_is, shorter, as-breaks, pure-breaks, then-breaks, map-breaks, fixed-breaks, behind-breaks, two-breaks, index-breaks, signed-breaks, vector-breaks, text-breaks, name-breaks}
 
 abbrev Never : ModuleRule → ℕ → List ℕ → Type 0
 Never r left bytes = ⊥
@@ -52,11 +55,84 @@ function_type-breaks =
       types : Breaks (NoVector Type_of_value NoType) (vector_at type_at)
       types = vector-breaks Type_of_value NoType type_at type-spells type-breaks
 
-pub locals-breaks : Breaks NoLocals locals_at
+-- ---- locals
+
+locals-both : (before : ℕ) (bytes : List ℕ) (x : Fault) → locals_at before bytes ≡ Err x → NoLocals before x.rule x.left bytes × (x.left ≤ length bytes)
 unfolding locals_at
-locals-breaks =
-    then-breaks NoIndex Index (λ _. NoType) index_at (λ whole count rest. type_at rest >>= λ type. Ok (record { count = count; ty = type.0 }, type.1)) index-spells index-breaks
-    (λ whole count. map-breaks (λ type. record { count = count; ty = type }) NoType type_at type-breaks)
+locals-both before bytes x e =
+    elim (bind_err (index_at bytes) (λ count. cond (ltb most_locals (before + count.0)) (Err (at rule.Limit (length bytes))) (typed count.0 count.1)) x e) [
+      | inl h ↦ (inr (inl (index-breaks.fails bytes x h)), index-breaks.within bytes x h)
+      | inr h ↦
+          let t = index-spells.found bytes h.0.0 h.0.1 h.1 in
+          elim (chosen (ltb most_locals (before + h.0.0)) (Err (at rule.Limit (length bytes))) (typed h.0.0 h.0.1) (Err x) h.2) [
+            | inl k ↦
+                subst (λ (y : Fault). NoLocals before y.rule y.left bytes × (y.left ≤ length bytes)) (err_is (at rule.Limit (length bytes)) x k.1)
+                (inl (refl, refl, h.0.0, t.front, h.0.1, t.whole, t.spelled, ltb-true most_locals (before + h.0.0) k.0), omega arith)
+            | inr k ↦
+                let b = map-breaks (made h.0.0) NoType type_at type-breaks in
+                (inr (inr (h.0.0, record { front = t.front; back = h.0.1; whole = t.whole; first = t.spelled; second = (ltb-false most_locals (before + h.0.0) k.0, b.fails h.0.1 x k.1) })), shorter bytes t.front h.0.1 x.left t.whole (b.within h.0.1 x k.1))
+          ]
+    ] where
+      made : ℕ → ValType → LocalRun
+      made count type = record { count = count; ty = type }
+
+      typed : ℕ → Reader LocalRun
+      typed count rest = type_at rest >>= λ type. Ok (made count type.0, type.1)
+
+-- after fewer runs than these, one fails
+abbrev FewerRuns : ℕ → ℕ → ModuleRule → ℕ → List ℕ → Type 0
+FewerRuns n before r left bytes =
+    (runs : List LocalRun) × (length runs < n) × (before + count_of_locals runs ≤ most_locals) × Joined (Each Locals runs) (NoLocals (before + count_of_locals runs) r left) bytes
+
+runs-both : (n before : ℕ) → before ≤ most_locals → (bytes : List ℕ) (x : Fault) → runs_from n before bytes ≡ Err x → FewerRuns n before x.rule x.left bytes × (x.left ≤ length bytes)
+unfolding runs_from
+runs-both zero before le bytes x e = absurd cc
+runs-both (suc n) before le bytes x e =
+    elim (bind_err (locals_at before bytes) (λ run. runs_from n (before + run.0.count) run.1 >>= λ others. Ok (run.0 ∷ others.0, others.1)) x e) [
+      | inl h ↦
+          let f = locals-both before bytes x h in
+          let none : before + count_of_locals [] ≡ before = omega arith in
+          (([], omega arith, omega arith, record { front = []; back = bytes; whole = refl; first = refl; second = subst (λ (m : ℕ). NoLocals m x.rule x.left bytes) (sym none) f.0 }), f.1)
+      | inr h ↦
+          let run : LocalRun = h.0.0 in
+          elim (bind_err (runs_from n (before + run.count) h.0.1) (λ others. Ok (run ∷ others.0, others.1)) x h.2) [
+            | inl k ↦
+                let t = (locals-spells before).found bytes run h.0.1 h.1 in
+                let so = runs-both n (before + run.count) t.spelled.0 h.0.1 x k in
+                let j = so.0.3 in
+                let sum : (before + run.count) + count_of_locals so.0.0 ≡ before + count_of_locals (run ∷ so.0.0) = omega (arith, count-cons run so.0.0) in (
+                  (
+                    run ∷ so.0.0,
+                    omega (arith, so.0.1),
+                    omega (arith, so.0.2),
+                    record {
+                      front = t.front ++ j.front;
+                      back = j.back;
+                      whole = t.whole ∙ ap (λ (l : List ℕ). t.front ++ l) j.whole ∙ sym (append_assoc t.front j.front j.back);
+                      first = record { front = t.front; back = j.front; whole = refl; first = t.spelled.1; second = j.first };
+                      second = subst (λ (m : ℕ). NoLocals m x.rule x.left j.back) sum j.second;
+                    },
+                  ),
+                  shorter bytes t.front h.0.1 x.left t.whole so.1,
+                )
+            | inr k ↦ absurd (cc k.2)
+          ]
+    ]
+
+pub local_runs-breaks : Breaks NoLocalRuns local_runs_at
+unfolding local_runs_at
+local_runs-breaks =
+    as-breaks (InTurn NoIndex Index (λ n. FewerRuns n 0)) NoLocalRuns local_runs_at
+    (then-breaks NoIndex Index (λ n. FewerRuns n 0) index_at (λ whole n. runs_from n 0) index-spells index-breaks
+    (λ whole n. record { fails = λ bytes x e. (runs-both n 0 (omega arith) bytes x e).0; within = λ bytes x e. (runs-both n 0 (omega arith) bytes x e).1 }))
+    to where
+      to : (r : ModuleRule) (left : ℕ) (bytes : List ℕ) → InTurn NoIndex Index (λ n. FewerRuns n 0) r left bytes → NoLocalRuns r left bytes
+      to r left bytes (inl h) = inl h
+      to r left bytes (inr (n, h)) =
+          let f = h.second in
+          let j = f.3 in
+          let none : 0 + count_of_locals f.0 ≡ count_of_locals f.0 = omega arith in
+          inr (n, record { front = h.front; back = h.back; whole = h.whole; first = h.first; second = (f.0, f.1, omega (arith, f.2), record { front = j.front; back = j.back; whole = j.whole; first = j.first; second = subst (λ (m : ℕ). NoLocals m r left j.back) none j.second }) })
 
 pub place-breaks : Breaks (InTurn NoIndex Index (λ _. NoIndex)) place_at
 unfolding place_at

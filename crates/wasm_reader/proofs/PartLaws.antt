@@ -1,9 +1,10 @@
 -- The same for names, types and the entries of sections.
-use Rattle.std.proofs.Common.{◌≡◌, ℕ, ◌-◌, ◌≤◌, Bool, true, false, cond, ltb, eqb, List, [], ◌∷◌, ◌++◌, length, take, drop, Option, Some, None, Ok, Err, refl, sym, ap, subst, ◌∙◌, arith, ℤ, ◌⊎◌, inl, inr}
+use Rattle.std.proofs.Common.{◌≡◌, ℕ, zero, suc, ◌+◌, ◌-◌, ◌≤◌, Bool, true, false, cond, ltb, eqb, List, [], ◌∷◌, ◌++◌, length, take, drop, Option, Some, None, Ok, Err, refl, sym, ap, subst, ◌∙◌, append_assoc, arith, ℤ, ◌⊎◌, inl, inr}
 use Rattle.std.specs.Str.{IsUtf8, is_utf8}
 use Rattle.std.specs.Str.Lossy.{utf8_valid_len}
 use Rattle.std.proofs.lemmas.Bool.{ltb-false, le-ltb}
 use Rattle.std.proofs.lemmas.List.{take_at, drop_at, take-append-drop, length-append, length-take}
+use Rattle.std.proofs.lemmas.List.Sums.{sum_by-cons}
 use Rattle.std.proofs.lemmas.Str.{is_utf8-from_IsUtf8, IsUtf8-from_is_utf8}
 use Rattle.wasm_tree.specs.declared.failure.ModuleRule.TheVariants as rule
 use Rattle.wasm_tree.specs.declared.module.ValType.{ValType}
@@ -23,9 +24,9 @@ use Rattle.wasm_tree.specs.declared.module.Custom.{Custom}
 use Rattle.wasm_tree.specs.declared.instr.MemArg.{MemArg}
 use Rattle.wasm_tree.specs.declared.instr.Instr.{Instr}
 use Rattle.wasm_tree.specs.declared.instr.Instr.TheVariants as instr
-use Rattle.wasm_tree.specs.Spelled.{Joined, Begins, Index, Signed, Text, Name, Vector, Type_of_value, Type_of_function, Memory, Import_kind, Imported, Export_kind, Exported, Global, Data, Locals, Place, Custom_contents, mutable_byte, IsConstant, Instruction}
+use Rattle.wasm_tree.specs.Spelled.{Joined, Begins, Each, Index, Signed, Text, Name, Vector, Type_of_value, Type_of_function, Memory, Import_kind, Imported, Export_kind, Exported, Global, Data, Locals, most_locals, count_of_locals, LocalRuns, Place, Custom_contents, mutable_byte, IsConstant, Instruction}
 use Rattle.wasm_reader.specs.declared.fault.Fault.{Fault}
-use Rattle.wasm_reader.specs.Reading.{◌>>=◌, at, Reader, byte_at, fixed_at, index_at, signed_at, vector_at, text_at, name_at, type_at, place_at, function_type_at, memory_at, import_kind_at, import_at, export_kind_at, export_at, mutable_at, constant_at, global_at, segment_at, locals_at, custom_at}
+use Rattle.wasm_reader.specs.Reading.{◌>>=◌, at, Reader, byte_at, fixed_at, index_at, signed_at, vector_at, text_at, name_at, type_at, place_at, function_type_at, memory_at, import_kind_at, import_at, export_kind_at, export_at, mutable_at, constant_at, global_at, segment_at, locals_at, runs_from, local_runs_at, custom_at}
 use Rattle.wasm_reader.proofs.Steps.{ok_is}
 use Rattle.wasm_reader.proofs.Laws.{Taken, Spells, Then, Mapped, Fills, bind_ok, chosen, then-spells, map-spells, as-spells, byte-spells, none-spells, if-spells, begins-spells, vector-spells}
 use Rattle.wasm_reader.proofs.NumberLaws.{index-spells, signed-spells}
@@ -159,18 +160,6 @@ function_type-spells =
     to : (x : FuncType) (bytes : List ℕ) → Then (Vector Type_of_value) (λ params. Mapped (λ results. record { params = params; results = results }) (Vector Type_of_value)) x bytes → Joined (Vector Type_of_value x.params) (Vector Type_of_value x.results) bytes
     to x bytes h = rw h.1.second.1 (record { front = h.1.front; back = h.1.back; whole = h.1.whole; first = h.1.first; second = h.1.second.2 })
 
-pub locals-spells : Spells Locals locals_at
-unfolding locals_at
-locals-spells =
-    as-spells _ Locals locals_at
-    (then-spells Index _ index_at (λ whole count rest. type_at rest >>= λ type. Ok (record { count = count; ty = type.0 }, type.1)) index-spells
-    (λ whole count. map-spells (λ type. record { count = count; ty = type }) Type_of_value type_at type-spells))
-    to
-    (λ x bytes h. (x.count, record { front = h.front; back = h.back; whole = h.whole; first = h.first; second = (x.ty, refl, h.second) }))
-  where
-    to : (x : LocalRun) (bytes : List ℕ) → Then Index (λ count. Mapped (λ type. record { count = count; ty = type }) Type_of_value) x bytes → Locals x bytes
-    to x bytes h = rw h.1.second.1 (record { front = h.1.front; back = h.1.back; whole = h.1.whole; first = h.1.first; second = h.1.second.2 })
-
 pub place-spells : Spells Place place_at
 unfolding place_at
 place-spells =
@@ -213,6 +202,88 @@ memory-spells =
 
       of : (x : Limits) (bytes : List ℕ) → Memory x bytes → Begins 0x00 (Open x) bytes ⊎ Begins 0x01 (Closed x) bytes
       of x bytes h = of_parts x.min x.max bytes h
+
+-- ---- locals
+
+-- what is read where a test doesn't refuse it
+unless-spells : {A : Type 0} (b : Bool) (f : Fault) (P : A → List ℕ → Type 0) (g : Reader A) → Spells P g → Spells (λ x bytes. (b ≡ false) × P x bytes) (λ bytes. cond b (Err f) (g bytes))
+unless-spells {A} b f P g sg = record { found = found; again = λ x front rest h. rw h.0 (sg.again x front rest h.1) } where
+  found : (bytes : List ℕ) (x : A) (rest : List ℕ) → cond b (Err f) (g bytes) ≡ Ok (x, rest) → Taken (λ x bytes. (b ≡ false) × P x bytes) bytes x rest
+  found bytes x rest e =
+      elim (chosen b (Err f) (g bytes) (Ok (x, rest)) e) [
+        | inl h ↦ absurd (cc h.1)
+        | inr h ↦ let t = sg.found bytes x rest h.1 in record { front = t.front; whole = t.whole; spelled = (h.0, t.spelled) }
+      ]
+
+-- a run of locals that is within the limit, behind so many
+abbrev pub FewLocals : ℕ → LocalRun → List ℕ → Type 0
+FewLocals before run bytes = (before + run.count ≤ most_locals) × Locals run bytes
+
+pub locals-spells : (before : ℕ) → Spells (FewLocals before) (locals_at before)
+unfolding locals_at
+locals-spells before =
+    as-spells (Then Index Run) (FewLocals before) (locals_at before)
+    (then-spells Index Run index_at (λ whole count rest. cond (ltb most_locals (before + count)) (Err (at rule.Limit (length whole))) (type_at rest >>= λ type. Ok (made count type.0, type.1))) index-spells
+    (λ whole count. unless-spells (ltb most_locals (before + count)) (at rule.Limit (length whole)) (Mapped (made count) Type_of_value) (λ rest. type_at rest >>= λ type. Ok (made count type.0, type.1))
+    (map-spells (made count) Type_of_value type_at type-spells)))
+    to
+    (λ x bytes h. (x.count, record { front = h.1.front; back = h.1.back; whole = h.1.whole; first = h.1.first; second = (le-ltb _ _ h.0, (x.ty, refl, h.1.second)) }))
+  where
+    made : ℕ → ValType → LocalRun
+    made count type = record { count = count; ty = type }
+
+    Run : ℕ → LocalRun → List ℕ → Type 0
+    Run count run bytes = (ltb most_locals (before + count) ≡ false) × Mapped (made count) Type_of_value run bytes
+
+    to : (x : LocalRun) (bytes : List ℕ) → Then Index Run x bytes → FewLocals before x bytes
+    to x bytes (count, h) =
+        let j = h.second.1 in
+        rw j.1 (ltb-false most_locals (before + count) h.second.0, record { front = h.front; back = h.back; whole = h.whole; first = h.first; second = j.2 })
+
+pub count-cons : (run : LocalRun) (runs : List LocalRun) → count_of_locals (run ∷ runs) ≡ run.count + count_of_locals runs
+count-cons run runs = sum_by-cons (λ run. run.count) run runs
+
+-- so many runs within the limit, behind so many locals
+abbrev FewRuns : ℕ → ℕ → List LocalRun → List ℕ → Type 0
+FewRuns n before runs bytes = (length runs ≡ n) × (before + count_of_locals runs ≤ most_locals) × Each Locals runs bytes
+
+runs-found : (n before : ℕ) → before ≤ most_locals → (bytes : List ℕ) (runs : List LocalRun) (rest : List ℕ) → runs_from n before bytes ≡ Ok (runs, rest) → Taken (FewRuns n before) bytes runs rest
+unfolding runs_from
+runs-found zero before le bytes runs rest e =
+    subst (λ (q : List LocalRun × List ℕ). Taken (FewRuns 0 before) bytes q.0 q.1) (ok_is ([], bytes) (runs, rest) e) (record { front = []; whole = refl; spelled = (refl, omega arith, refl) })
+runs-found (suc n) before le bytes runs rest e =
+    let a = bind_ok (locals_at before bytes) (λ run. runs_from n (before + run.0.count) run.1 >>= λ others. Ok (run.0 ∷ others.0, others.1)) (runs, rest) e in
+    let run : LocalRun = a.0.0 in
+    let b = bind_ok (runs_from n (before + run.count) a.0.1) (λ others. Ok (run ∷ others.0, others.1)) (runs, rest) a.2 in
+    let t = (locals-spells before).found bytes run a.0.1 a.1 in
+    let u = runs-found n (before + run.count) t.spelled.0 a.0.1 b.0.0 b.0.1 b.1 in
+    subst (λ (q : List LocalRun × List ℕ). Taken (FewRuns (suc n) before) bytes q.0 q.1) (ok_is (run ∷ b.0.0, b.0.1) (runs, rest) b.2)
+    (record {
+      front = t.front ++ u.front;
+      whole = t.whole ∙ ap (λ (r : List ℕ). t.front ++ r) u.whole ∙ sym (append_assoc t.front u.front b.0.1);
+      spelled = (ap suc u.spelled.0, omega (arith, u.spelled.1, count-cons run b.0.0), record { front = t.front; back = u.front; whole = refl; first = t.spelled.1; second = u.spelled.2 });
+    })
+
+runs-again : (n before : ℕ) (runs : List LocalRun) (front rest : List ℕ) → FewRuns n before runs front → runs_from n before (front ++ rest) ≡ Ok (runs, rest)
+unfolding runs_from
+runs-again zero before [] front rest h = ap (λ (l : List ℕ). runs_from 0 before (l ++ rest)) h.2
+runs-again zero before (run ∷ runs) front rest h = absurd (omega (arith, h.0))
+runs-again (suc n) before [] front rest h = absurd (omega (arith, h.0))
+runs-again (suc n) before (run ∷ runs) front rest h =
+    let j = h.2 in
+    let regrouped : front ++ rest ≡ j.front ++ (j.back ++ rest) = ap (λ (l : List ℕ). l ++ rest) j.whole ∙ append_assoc j.front j.back rest in
+    let one : locals_at before (front ++ rest) ≡ Ok (run, j.back ++ rest) =
+    ap (locals_at before) regrouped ∙ (locals-spells before).again run j.front (j.back ++ rest) (omega (arith, h.1, count-cons run runs), j.first) in
+    let two : runs_from n (before + run.count) (j.back ++ rest) ≡ Ok (runs, rest) = runs-again n (before + run.count) runs j.back rest (omega (arith, h.0), omega (arith, h.1, count-cons run runs), j.second) in
+    rw (one, two) refl
+
+pub local_runs-spells : Spells LocalRuns local_runs_at
+unfolding local_runs_at
+local_runs-spells =
+    as-spells (Then Index (λ n. FewRuns n 0)) LocalRuns local_runs_at
+    (then-spells Index (λ n. FewRuns n 0) index_at (λ whole n. runs_from n 0) index-spells (λ whole n. record { found = runs-found n 0 (omega arith); again = runs-again n 0 }))
+    (λ runs bytes h. record { spelled = record { front = h.1.front; back = h.1.back; whole = h.1.whole; first = rw h.1.second.0 h.1.first; second = h.1.second.2 }; few = omega (arith, h.1.second.1) })
+    (λ runs bytes h. let j = h.spelled in (length runs, record { front = j.front; back = j.back; whole = j.whole; first = j.first; second = (refl, omega (arith, h.few), j.second) }))
 
 -- ---- entries
 

@@ -7,10 +7,11 @@ use Rattle.wasm_reader.specs.declared.fault.ReadFail.{ReadFail}
 use Rattle.wasm_reader.specs.declared.fault.ReadFail.TheVariants as fail
 use Rattle.std.specs.Prelude.{reverse}
 use Rattle.wasm_tree.specs.declared.instr.Instr.{Instr}
+use Rattle.wasm_tree.specs.declared.module.LocalRun.{LocalRun}
 use Rattle.wasm_tree.specs.declared.module.Custom.{Custom}
 use Rattle.wasm_tree.specs.declared.failure.ModuleRule.TheVariants as rule
 use Rattle.wasm_reader.specs.declared.section.Found.{Found}
-use Rattle.wasm_reader.specs.Reading.{◌>>=◌, at, Fails, Reader, each_at, instruction_at, follow_at, code_from, expression_at, filled_at, custom_at, with_custom, customs_at, behind_id, header_byte_at, header_at}
+use Rattle.wasm_reader.specs.Reading.{◌>>=◌, at, Fails, Reader, each_at, locals_at, runs_from, instruction_at, room_at, follow_at, code_from, expression_at, filled_at, custom_at, with_custom, customs_at, behind_id, header_byte_at, header_at}
 
 abbrev done : {A : Type 0} → A → Result A Fault
 done x = Ok x
@@ -55,43 +56,85 @@ each-is_done {A} f front count i bytes total le so_far =
     let one : with_front front (each_at f (count - i) bytes) ≡ Ok (front, bytes) = rw k (ap (λ (ns : List A). Ok (ns, bytes)) (append-nil front)) in
     sym so_far ∙ one
 
+unread : {A : Type 0} (r : Result (List A × List ℕ) Fault) → with_front [] r ≡ r
+unread (Ok x) = refl
+unread (Err f) = refl
+
+-- ---- locals
+
+pub runs-goes_on : (front : List LocalRun) (count i before : ℕ) (bytes : List ℕ) (run : LocalRun) (after : List ℕ) (total : Result (List LocalRun × List ℕ) Fault) → i < count → locals_at before bytes ≡ Ok (run, after)
+    → with_front front (runs_from (count - i) before bytes) ≡ total → with_front (front ++ run ∷ []) (runs_from (count - (i + 1)) (before + run.count) after) ≡ total
+unfolding runs_from
+runs-goes_on front count i before bytes run after total lt h so_far =
+    let k : count - i ≡ suc (count - (i + 1)) = omega arith in
+    let one : with_front front (runs_from (count - i) before bytes) ≡ with_front (front ++ run ∷ []) (runs_from (count - (i + 1)) (before + run.count) after) = rw (k, h) (regroup front run (runs_from (count - (i + 1)) (before + run.count) after)) in
+    sym one ∙ so_far
+
+pub runs-ends : (e : ReadFail) (front : List LocalRun) (count i before : ℕ) (bytes : List ℕ) (total : Result (List LocalRun × List ℕ) Fault) → i < count → Fails e (locals_at before bytes)
+    → with_front front (runs_from (count - i) before bytes) ≡ total → Fails e total
+unfolding runs_from
+runs-ends fail.NoMemory front count i before bytes total lt h so_far = tt
+runs-ends (fail.Fault x) front count i before bytes total lt h so_far =
+    let k : count - i ≡ suc (count - (i + 1)) = omega arith in
+    let one : with_front front (runs_from (count - i) before bytes) ≡ Err x = rw (k, h) refl in
+    sym so_far ∙ one
+
+pub runs-is_done : (front : List LocalRun) (count i before : ℕ) (bytes : List ℕ) (total : Result (List LocalRun × List ℕ) Fault) → count ≤ i → with_front front (runs_from (count - i) before bytes) ≡ total → total ≡ Ok (front, bytes)
+unfolding runs_from
+runs-is_done front count i before bytes total le so_far =
+    let k : count - i ≡ 0 = omega arith in
+    let one : with_front front (runs_from (count - i) before bytes) ≡ Ok (front, bytes) = rw k (ap (λ (runs : List LocalRun). Ok (runs, bytes)) (append-nil front)) in
+    sym so_far ∙ one
+
+pub runs-begins : (count : ℕ) (bytes : List ℕ) → with_front [] (runs_from (count - 0) 0 bytes) ≡ runs_from count 0 bytes
+runs-begins count bytes = rw sub-zero (unread (runs_from count 0 bytes))
+
 -- ---- code
 
 pub code-goes_on : (front : List Instr) (count i : ℕ) (arms opened : List Bool) (bytes : List ℕ) (n : Instr) (after : List ℕ) (total : Result (List Instr × List ℕ) Fault) → i < count
-    → instruction_at bytes ≡ Ok (n, after) → follow_at (length bytes) arms n ≡ Ok (false, opened)
+    → room_at arms bytes ≡ Ok tt → instruction_at bytes ≡ Ok (n, after) → follow_at (length bytes) arms n ≡ Ok (false, opened)
     → with_front front (code_from (count - i) arms bytes) ≡ total → with_front (front ++ n ∷ []) (code_from (count - (i + 1)) opened after) ≡ total
 unfolding code_from
-code-goes_on front count i arms opened bytes n after total lt h follows so_far =
+code-goes_on front count i arms opened bytes n after total lt room h follows so_far =
     let k : count - i ≡ suc (count - (i + 1)) = omega arith in
-    let one : with_front front (code_from (count - i) arms bytes) ≡ with_front (front ++ n ∷ []) (code_from (count - (i + 1)) opened after) = rw (k, h, follows) (regroup front n (code_from (count - (i + 1)) opened after)) in
+    let one : with_front front (code_from (count - i) arms bytes) ≡ with_front (front ++ n ∷ []) (code_from (count - (i + 1)) opened after) = rw (k, room, h, follows) (regroup front n (code_from (count - (i + 1)) opened after)) in
     sym one ∙ so_far
 
 pub code-ended : (front : List Instr) (count i : ℕ) (arms opened : List Bool) (bytes : List ℕ) (n : Instr) (after : List ℕ) (total : Result (List Instr × List ℕ) Fault) → i < count
-    → instruction_at bytes ≡ Ok (n, after) → follow_at (length bytes) arms n ≡ Ok (true, opened)
+    → room_at arms bytes ≡ Ok tt → instruction_at bytes ≡ Ok (n, after) → follow_at (length bytes) arms n ≡ Ok (true, opened)
     → with_front front (code_from (count - i) arms bytes) ≡ total → total ≡ Ok (front ++ n ∷ [], after)
 unfolding code_from
-code-ended front count i arms opened bytes n after total lt h follows so_far =
+code-ended front count i arms opened bytes n after total lt room h follows so_far =
     let k : count - i ≡ suc (count - (i + 1)) = omega arith in
-    let one : with_front front (code_from (count - i) arms bytes) ≡ Ok (front ++ n ∷ [], after) = rw (k, h, follows) refl in
+    let one : with_front front (code_from (count - i) arms bytes) ≡ Ok (front ++ n ∷ [], after) = rw (k, room, h, follows) refl in
     sym so_far ∙ one
 
-pub code-ends : (e : ReadFail) (front : List Instr) (count i : ℕ) (arms : List Bool) (bytes : List ℕ) (total : Result (List Instr × List ℕ) Fault) → i < count → Fails e (instruction_at bytes)
+pub code-ends : (e : ReadFail) (front : List Instr) (count i : ℕ) (arms : List Bool) (bytes : List ℕ) (total : Result (List Instr × List ℕ) Fault) → i < count → room_at arms bytes ≡ Ok tt → Fails e (instruction_at bytes)
     → with_front front (code_from (count - i) arms bytes) ≡ total → Fails e total
 unfolding code_from
-code-ends fail.NoMemory front count i arms bytes total lt h so_far = tt
-code-ends (fail.Fault x) front count i arms bytes total lt h so_far =
+code-ends fail.NoMemory front count i arms bytes total lt room h so_far = tt
+code-ends (fail.Fault x) front count i arms bytes total lt room h so_far =
     let k : count - i ≡ suc (count - (i + 1)) = omega arith in
-    let one : with_front front (code_from (count - i) arms bytes) ≡ Err x = rw (k, h) refl in
+    let one : with_front front (code_from (count - i) arms bytes) ≡ Err x = rw (k, room, h) refl in
     sym so_far ∙ one
 
 pub code-ends_follow : (e : ReadFail) (front : List Instr) (count i : ℕ) (arms : List Bool) (bytes : List ℕ) (n : Instr) (after : List ℕ) (total : Result (List Instr × List ℕ) Fault) → i < count
-    → instruction_at bytes ≡ Ok (n, after) → Fails e (follow_at (length bytes) arms n)
+    → room_at arms bytes ≡ Ok tt → instruction_at bytes ≡ Ok (n, after) → Fails e (follow_at (length bytes) arms n)
     → with_front front (code_from (count - i) arms bytes) ≡ total → Fails e total
 unfolding code_from
-code-ends_follow fail.NoMemory front count i arms bytes n after total lt is h so_far = tt
-code-ends_follow (fail.Fault x) front count i arms bytes n after total lt is h so_far =
+code-ends_follow fail.NoMemory front count i arms bytes n after total lt room is h so_far = tt
+code-ends_follow (fail.Fault x) front count i arms bytes n after total lt room is h so_far =
     let k : count - i ≡ suc (count - (i + 1)) = omega arith in
-    let one : with_front front (code_from (count - i) arms bytes) ≡ Err x = rw (k, is, h) refl in
+    let one : with_front front (code_from (count - i) arms bytes) ≡ Err x = rw (k, room, is, h) refl in
+    sym so_far ∙ one
+
+pub code-ends_room : (e : ReadFail) (front : List Instr) (count i : ℕ) (arms : List Bool) (bytes : List ℕ) (total : Result (List Instr × List ℕ) Fault) → i < count → Fails e (room_at arms bytes)
+    → with_front front (code_from (count - i) arms bytes) ≡ total → Fails e total
+unfolding code_from
+code-ends_room fail.NoMemory front count i arms bytes total lt h so_far = tt
+code-ends_room (fail.Fault x) front count i arms bytes total lt h so_far =
+    let k : count - i ≡ suc (count - (i + 1)) = omega arith in
+    let one : with_front front (code_from (count - i) arms bytes) ≡ Err x = rw (k, h) refl in
     sym so_far ∙ one
 
 pub code-is_done : (front : List Instr) (count i : ℕ) (arms : List Bool) (bytes : List ℕ) (total : Result (List Instr × List ℕ) Fault) → count ≤ i
@@ -104,10 +147,7 @@ code-is_done front count i arms bytes total le so_far =
 
 pub code-begins : (bytes : List ℕ) → with_front [] (code_from (length bytes - 0) (reverse []) bytes) ≡ expression_at bytes
 unfolding expression_at
-code-begins bytes = rw sub-zero (unread (code_from (length bytes) [] bytes)) where
-  unread : (r : Result (List Instr × List ℕ) Fault) → with_front [] r ≡ r
-  unread (Ok x) = refl
-  unread (Err f) = refl
+code-begins bytes = rw sub-zero (unread (code_from (length bytes) [] bytes))
 
 -- ---- custom sections
 

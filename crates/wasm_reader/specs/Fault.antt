@@ -14,6 +14,7 @@ use Rattle.wasm_tree.specs.declared.module.Import.{Import}
 use Rattle.wasm_tree.specs.declared.module.Limits.{Limits}
 use Rattle.wasm_tree.specs.declared.module.ExportEntry.{ExportEntry}
 use Rattle.wasm_tree.specs.declared.module.GlobalVar.{GlobalVar}
+use Rattle.wasm_tree.specs.declared.module.LocalRun.{LocalRun}
 use Rattle.wasm_tree.specs.declared.module.FuncBody.{FuncBody}
 use Rattle.wasm_tree.specs.declared.module.Segment.{Segment}
 use Rattle.wasm_tree.specs.declared.module.Custom.{Custom}

@@ -1,12 +1,36 @@
 ghost use Rattle.std.specs.Prelude.{◌≡◌, reverse, length};
-ghost use Rattle.wasm_reader.specs.Reading.{Gives, follow_at, expression_at, body_at, filled_at};
+ghost use Rattle.wasm_reader.specs.Reading.{Gives, opens as opens_at, room_at, follow_at, expression_at, body_at, filled_at};
 
-use crate::fault::{ReadFail, missing, unknown};
+use crate::fault::{ReadFail, beyond, missing, unknown};
 use crate::instr::instr;
+use crate::locals::locals;
 use crate::part::{Filling, Part, filled};
 use cm_base::Items;
+use cm_base::limits::NESTING;
 use std::alloc::Global;
-use wasm_tree::{FuncBody, Instr, LocalRun};
+use wasm_tree::{FuncBody, Instr};
+
+/// Whether the first byte is the opcode of an instruction that opens a sequence.
+#[tactic(auto, unfolding(crate::specs::Reading::opens))]
+fn opens(bytes: &[u8]) -> bool
+    ensures { result ≡ opens_at bytes.now }
+{
+    match bytes.first() {
+        Some(opcode) => 0x02 <= *opcode && *opcode <= 0x04,
+        None => false,
+    }
+}
+
+/// Refuses to open a sequence inside as many as may be open.
+#[tactic(auto, unfolding(crate::specs::Reading::room_at))]
+fn room(arms: &Items<bool>, bytes: &[u8]) -> Result<(), ReadFail>
+    ensures { Gives (λ _. tt) result (room_at (reverse arms.now) bytes.now) }
+{
+    if arms.len() >= NESTING as usize && opens(bytes) {
+        return Err(beyond(bytes));
+    }
+    Ok(())
+}
 
 /// Opens or ends sequences as the instruction at the front of the bytes does, and says whether it ends the
 /// function. `arms` has the open sequences, innermost last, with true for the first arm of an `if`.
@@ -35,6 +59,7 @@ pub fn expression(alloc: Global, bytes: &[u8]) -> Result<(Items<Instr>, &[u8]), 
     let mut code = Items::new(alloc);
     let mut rest = bytes;
     for _ in 0..bytes.len() {
+        room(&arms, rest)?;
         let (instr, after) = instr(alloc, rest)?;
         let ended = follow(&mut arms, &instr, rest)?;
         code.push(instr)?;
@@ -52,7 +77,7 @@ impl Filling for FuncBody {
 
     #[tactic(auto, unfolding(crate::specs::Reading::body_at))]
     fn fill(alloc: Global, bytes: &[u8]) -> Result<(FuncBody, &[u8]), ReadFail> {
-        let (locals, rest) = Items::<LocalRun>::fill(alloc, bytes)?;
+        let (locals, rest) = locals(alloc, bytes)?;
         let (code, rest) = expression(alloc, rest)?;
         Ok((FuncBody { locals, code }, rest))
     }

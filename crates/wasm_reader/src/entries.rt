@@ -1,5 +1,5 @@
 ghost use Rattle.std.specs.Prelude.{◌≡◌};
-ghost use Rattle.wasm_reader.specs.Reading.{Gives, index_at, type_at, name_at, text_at, function_type_at, memory_at, import_at, import_kind_at, export_at, export_kind_at, constant_at, mutable_at, global_at, segment_at, locals_at};
+ghost use Rattle.wasm_reader.specs.Reading.{Gives, index_at, type_at, name_at, text_at, function_type_at, memory_at, import_at, import_kind_at, export_at, export_kind_at, constant_at, mutable_at, global_at, segment_at};
 
 use crate::fault::{ReadFail, unknown};
 use crate::number::{byte, fixed, index, signed32, signed64};
@@ -8,8 +8,8 @@ use crate::text::{name, text};
 use cm_base::Items;
 use std::alloc::Global;
 use wasm_tree::{
-    ExportEntry, ExportKind, FuncType, GlobalVar, Import, ImportKind, Instr, Limits, LocalRun,
-    Segment, ValType,
+    ExportEntry, ExportKind, FuncType, GlobalVar, Import, ImportKind, Instr, Limits, Segment,
+    ValType,
 };
 
 /// The number of a type, function or label.
@@ -192,16 +192,5 @@ impl Part for Segment {
             },
             rest,
         ))
-    }
-}
-
-impl Part for LocalRun {
-    ghost reads = { locals_at };
-
-    #[tactic(auto, unfolding(crate::specs::Reading::locals_at))]
-    fn read(alloc: Global, bytes: &[u8]) -> Result<(LocalRun, &[u8]), ReadFail> {
-        let (count, rest) = index(bytes)?;
-        let (ty, rest) = ValType::read(alloc, rest)?;
-        Ok((LocalRun { count, ty }, rest))
     }
 }

@@ -108,3 +108,13 @@ pub fn misplaced(bytes: &[u8]) -> ReadFail
         left: bytes.len(),
     })
 }
+
+/// What begins here passes a limit.
+pub fn beyond(bytes: &[u8]) -> ReadFail
+    ensures { result ≡ the_fail.Fault (at rule.Limit (length bytes.now)) }
+{
+    ReadFail::Fault(Fault {
+        rule: ModuleRule::Limit,
+        left: bytes.len(),
+    })
+}

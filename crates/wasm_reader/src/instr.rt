@@ -1,8 +1,9 @@
 ghost use Rattle.std.specs.Prelude.{◌≡◌};
-ghost use Rattle.wasm_reader.specs.Reading.{Gives, form_of, block_type_at, place_at, instruction_at};
+ghost use Rattle.wasm_reader.specs.declared.form.Form.TheVariants as the_form;
+ghost use Rattle.wasm_reader.specs.Reading.{Gives, form_of, block_type_at, place_at, rest_at, instruction_at};
 
 use crate::fault::{ReadFail, unknown};
-use crate::form::Form;
+use crate::form::{Form, Indexed, Opening};
 use crate::number::{byte, fixed, index, signed32, signed64};
 use crate::opcodes::FORMS;
 use crate::part::{Filling, Part};
@@ -46,6 +47,31 @@ fn place(bytes: &[u8]) -> Result<(MemArg, &[u8]), ReadFail>
     Ok((MemArg { align, offset }, rest))
 }
 
+/// The rest of an instruction that opens a sequence.
+fn opening(alloc: Global, form: Opening, bytes: &[u8]) -> Result<(Instr, &[u8]), ReadFail>
+    ensures { Gives (λ x. (x.0, x.1.now)) result (rest_at 0 (the_form.Opening form) bytes.now) }
+{
+    let (ty, rest) = block_type(alloc, bytes)?;
+    Ok((form.instr(ty), rest))
+}
+
+/// The rest of an instruction with an index.
+fn indexed(form: Indexed, bytes: &[u8]) -> Result<(Instr, &[u8]), ReadFail>
+    ensures { Gives (λ x. (x.0, x.1.now)) result (rest_at 0 (the_form.Indexed form) bytes.now) }
+{
+    let (number, rest) = index(bytes)?;
+    Ok((form.instr(number), rest))
+}
+
+/// The rest of a branch by a table.
+fn table(alloc: Global, bytes: &[u8]) -> Result<(Instr, &[u8]), ReadFail>
+    ensures { Gives (λ x. (x.0, x.1.now)) result (rest_at 0 the_form.BrTable bytes.now) }
+{
+    let (labels, rest) = Items::<u32>::fill(alloc, bytes)?;
+    let (other, rest) = index(rest)?;
+    Ok((Instr::BrTable(labels, other), rest))
+}
+
 /// An instruction.
 #[tactic(auto, unfolding(crate::specs::Reading::instruction_at))]
 pub fn instr(alloc: Global, bytes: &[u8]) -> Result<(Instr, &[u8]), ReadFail>
@@ -55,14 +81,8 @@ pub fn instr(alloc: Global, bytes: &[u8]) -> Result<(Instr, &[u8]), ReadFail>
     match form(opcode) {
         Form::Unknown => Err(unknown(bytes)),
         Form::Bare(form) => Ok((form.instr(), rest)),
-        Form::Opening(form) => {
-            let (ty, rest) = block_type(alloc, rest)?;
-            Ok((form.instr(ty), rest))
-        }
-        Form::Indexed(form) => {
-            let (number, rest) = index(rest)?;
-            Ok((form.instr(number), rest))
-        }
+        Form::Opening(form) => opening(alloc, form, rest),
+        Form::Indexed(form) => indexed(form, rest),
         Form::Load(op) => {
             let (place, rest) = place(rest)?;
             Ok((Instr::Load(op, place), rest))
@@ -71,11 +91,7 @@ pub fn instr(alloc: Global, bytes: &[u8]) -> Result<(Instr, &[u8]), ReadFail>
             let (place, rest) = place(rest)?;
             Ok((Instr::Store(op, place), rest))
         }
-        Form::BrTable => {
-            let (labels, rest) = Items::<u32>::fill(alloc, rest)?;
-            let (other, rest) = index(rest)?;
-            Ok((Instr::BrTable(labels, other), rest))
-        }
+        Form::BrTable => table(alloc, rest),
         Form::MemorySize => Ok((Instr::MemorySize, fixed(0x00, rest)?)),
         Form::I32Const => {
             let (value, rest) = signed32(rest)?;

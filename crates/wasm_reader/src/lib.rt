@@ -2,8 +2,9 @@
 //! alone: it gives the module that the bytes spell (`Spelled` of wasm_tree), refuses exactly where none is
 //! spelled, and names the first rule that fails and the byte at which it does (`specs/Fault`). Inside, each
 //! reader is proved equal to a reading function on lists (`specs/Reading`), and laws about these functions
-//! tie them to both definitions. No list is reserved by a count that the bytes state, open blocks are counted
-//! without recursion, and each byte is looked at once, but for names, which are tested for UTF-8 first.
+//! tie them to both definitions. No list is reserved by a count that the bytes state, a function's locals and
+//! open blocks are counted, without recursion, and refused past their limits before anything of that size is
+//! made, and each byte is looked at once, but for names, which are tested for UTF-8 first, and what opens a block.
 #![tactic(auto)]
 
 mod code;
@@ -11,6 +12,7 @@ mod entries;
 mod fault;
 mod form;
 mod instr;
+mod locals;
 mod number;
 mod opcodes;
 mod part;

@@ -1,5 +1,5 @@
 use super::*;
-use std::alloc::Global;
+use std::alloc::{AllocError, Global};
 use std::test::*;
 use wasm_tree::{Instr, ModuleFail, ModuleRule, ValType};
 
@@ -108,7 +108,7 @@ fn refusals(rt: HostRuntime) {
         refusal(rt.alloc(), &[0, 0x61, 0x73, 0x6D, 2, 0, 0, 0]),
         Some((4, header))
     );
-    let rows: [(&[u8], u64, ModuleRule); 20] = [
+    let rows: [(&[u8], u64, ModuleRule); 22] = [
         // a count of elements that are missing
         (
             &[0x01, 0x05, 0xff, 0xff, 0xff, 0xff, 0x0f],
@@ -181,6 +181,22 @@ fn refusals(rt: HostRuntime) {
             15,
             ModuleRule::Opcode,
         ),
+        // 65,536 locals and one more
+        (
+            &[
+                0x0a, 0x0a, 0x01, 0x08, 0x02, 0x80, 0x80, 0x04, 0x7f, 0x01, 0x7e, 0x0b,
+            ],
+            17,
+            ModuleRule::Limit,
+        ),
+        // as many locals as a number can say, of f32
+        (
+            &[
+                0x0a, 0x0a, 0x01, 0x08, 0x01, 0xff, 0xff, 0xff, 0xff, 0x0f, 0x7d, 0x0b,
+            ],
+            13,
+            ModuleRule::Limit,
+        ),
         // another byte behind memory.size
         (
             &[0x0a, 0x06, 0x01, 0x04, 0x00, 0x3f, 0x01, 0x0b],
@@ -198,4 +214,40 @@ fn refusals(rt: HostRuntime) {
             "{contents:?}"
         );
     }
+}
+
+/// A module that begins so after the header, and then opens and ends this many blocks inside one another.
+fn nested(alloc: Global, start: &[u8], depth: u32) -> Result<Vec<u8>, AllocError> {
+    let mut bytes = Vec::new(alloc);
+    bytes.extend_from_slice(&SMALL[..8])?;
+    bytes.extend_from_slice(start)?;
+    for _ in 0..depth {
+        bytes.extend_from_slice(&[0x02, 0x40])?;
+    }
+    for _ in 0..depth {
+        bytes.push(0x0b)?;
+    }
+    bytes.push(0x0b)?;
+    Ok(bytes)
+}
+
+#[test]
+fn as_many_locals_and_blocks_as_may_be(rt: HostRuntime) -> Result<(), Fail> {
+    let locals = [
+        0x03, 0x02, 0x01, 0x00, 0x0a, 0x08, 0x01, 0x06, 0x01, 0x80, 0x80, 0x04, 0x7f,
+    ];
+    let bytes = nested(rt.alloc(), &locals, 0)?;
+    assert!(rt; read_module(rt.alloc(), &bytes).is_ok());
+    let deepest = [
+        0x03, 0x02, 0x01, 0x00, 0x0a, 0x85, 0x60, 0x01, 0x82, 0x60, 0x00,
+    ];
+    let bytes = nested(rt.alloc(), &deepest, 4096)?;
+    assert!(rt; read_module(rt.alloc(), &bytes).is_ok());
+    let too_deep = [
+        0x03, 0x02, 0x01, 0x00, 0x0a, 0x88, 0x60, 0x01, 0x85, 0x60, 0x00,
+    ];
+    let bytes = nested(rt.alloc(), &too_deep, 4097)?;
+    let refused = refusal(rt.alloc(), &bytes);
+    assert_eq!(rt; refused, Some((8211, ModuleRule::Limit)));
+    Ok(())
 }

@@ -4,6 +4,8 @@
 #![tactic(auto)]
 
 mod round_trip;
+#[cfg(test)]
+mod tests;
 
 use round_trip::shortened;
 use std::process::ExitCode;

@@ -38,31 +38,3 @@ pub fn shortened(alloc: Global, bytes: &[u8]) -> Result<Bytes, ModuleFail>
         Err(fail) => Err(fail),
     }
 }
-
-#[cfg(test)]
-mod tests {
-    use super::*;
-
-    const EMPTY: [u8; 8] = [0x00, 0x61, 0x73, 0x6D, 0x01, 0x00, 0x00, 0x00];
-
-    // One function type of nothing to nothing.
-    const SHORT: [u8; 14] = [
-        0x00, 0x61, 0x73, 0x6D, 0x01, 0x00, 0x00, 0x00, 0x01, 0x04, 0x01, 0x60, 0x00, 0x00,
-    ];
-
-    // The same, with its size and its counts in more bytes than they need.
-    const LONG: [u8; 18] = [
-        0x00, 0x61, 0x73, 0x6D, 0x01, 0x00, 0x00, 0x00, 0x01, 0x87, 0x00, 0x81, 0x00, 0x60, 0x80,
-        0x80, 0x00, 0x00,
-    ];
-
-    #[test]
-    fn copies_are_shortest(rt: HostRuntime) -> Result<(), ModuleFail> {
-        let alloc = rt.alloc();
-        assert!(&rt; shortened(alloc, &EMPTY)?.as_slice() == EMPTY.as_slice());
-        assert!(&rt; shortened(alloc, &SHORT)?.as_slice() == SHORT.as_slice());
-        assert!(&rt; shortened(alloc, &LONG)?.as_slice() == SHORT.as_slice());
-        assert!(&rt; shortened(alloc, &LONG[..17]).is_err());
-        Ok(())
-    }
-}

@@ -108,7 +108,7 @@ fn refusals(rt: HostRuntime) {
         refusal(rt.alloc(), &[0, 0x61, 0x73, 0x6D, 2, 0, 0, 0]),
         Some((4, header))
     );
-    let rows: [(&[u8], u64, ModuleRule); 22] = [
+    let rows: [(&[u8], u64, ModuleRule); 18] = [
         // a count of elements that are missing
         (
             &[0x01, 0x05, 0xff, 0xff, 0xff, 0xff, 0x0f],
@@ -123,14 +123,6 @@ fn refusals(rt: HostRuntime) {
         ),
         // a size of 33 bits
         (&[0x01, 0x80, 0x80, 0x80, 0x80, 0x10], 9, ModuleRule::Number),
-        // a table
-        (&[0x04, 0x01, 0x00], 8, ModuleRule::Section),
-        // a start
-        (&[0x08, 0x01, 0x00], 8, ModuleRule::Section),
-        // elements
-        (&[0x09, 0x01, 0x00], 8, ModuleRule::Section),
-        // an id past the last
-        (&[0x0c, 0x01, 0x00], 8, ModuleRule::Section),
         // types after imports
         (
             &[0x02, 0x01, 0x00, 0x01, 0x01, 0x00],
@@ -214,6 +206,20 @@ fn refusals(rt: HostRuntime) {
             "{contents:?}"
         );
     }
+}
+
+#[test]
+fn each_id_outside_the_subset(rt: HostRuntime) -> Result<(), Fail> {
+    for id in 0..=u8::MAX {
+        let mut bytes = Vec::from_slice(rt.alloc(), &SMALL[..8])?;
+        bytes.extend_from_slice(&[id, 0x01, 0x00])?;
+        let want = match id {
+            0..=3 | 5..=7 | 10..=11 => None,
+            _ => Some((8, ModuleRule::Section)),
+        };
+        assert_eq!(rt; refusal(rt.alloc(), &bytes), want, "{id}");
+    }
+    Ok(())
 }
 
 /// A module that begins so after the header, and then opens and ends this many blocks inside one another.

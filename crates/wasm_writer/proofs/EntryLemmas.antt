@@ -10,8 +10,9 @@ use Rattle.wasm_tree.specs.declared.module.LocalRun.{LocalRun}
 use Rattle.wasm_tree.specs.declared.module.FuncBody.{FuncBody}
 use Rattle.wasm_tree.specs.declared.module.Segment.{Segment}
 use Rattle.wasm_tree.specs.declared.module.Custom.{Custom}
-use Rattle.wasm_tree.specs.Spelled.{Joined, Is, Begins, Each, Index, Signed, Vector, Text, Name, Type_of_value, type_byte, Import_kind, Imported, Export_kind, Exported, mutable_byte, Instruction, IsConstant, Global, Data, Locals, LocalRuns, count_of_locals, most_locals, Expression, IsClosed, Body, Custom_contents}
+use Rattle.wasm_tree.specs.Spelled.{Joined, Is, Begins, Each, Index, Signed, Vector, Text, Name, Type_of_value, type_byte, Import_kind, Imported, Export_kind, Exported, mutable_byte, Instruction, IsConstant, Global, Data, Locals, LocalRuns, Expression, Body, Custom_contents}
 use Rattle.wasm_writer.specs.Spelling.{unsigned_bytes, signed_bytes, vector_bytes, text_bytes, import_kind_bytes, import_bytes, export_kind_bytes, export_bytes, instruction_bytes, global_bytes, locals_bytes, code_bytes, body_bytes, segment_bytes, custom_contents}
+use Rattle.wasm_writer.specs.Writable.{IsFormed}
 use Rattle.wasm_writer.proofs.Begins.{locals_begin}
 use Rattle.wasm_writer.proofs.Parts.{joined, begins, text_spelled, vector_count}
 
@@ -59,7 +60,7 @@ global_sizes global h = omega (arith, length-append (instruction_bytes global.va
 pub locals_spelled : (run : LocalRun) → Index run.count (unsigned_bytes run.count) → Locals run (locals_bytes run)
 locals_spelled run h = joined (Index run.count) (Type_of_value run.ty) (unsigned_bytes run.count) (type_byte run.ty ∷ []) h refl
 
-pub body_spelled : (body : FuncBody) → (count_of_locals body.locals ≤ most_locals) × IsClosed [] body.code → length (code_bytes body) < 2 ^ 32 → Vector Locals body.locals (vector_bytes locals_bytes body.locals) → Each Instruction body.code (flat_map instruction_bytes body.code) → Body body (body_bytes body)
+pub body_spelled : (body : FuncBody) → IsFormed body → length (code_bytes body) < 2 ^ 32 → Vector Locals body.locals (vector_bytes locals_bytes body.locals) → Each Instruction body.code (flat_map instruction_bytes body.code) → Body body (body_bytes body)
 body_spelled body formed sized locals code =
     (code_bytes body, text_spelled (code_bytes body) sized, joined (LocalRuns body.locals) (Expression body.code) (vector_bytes locals_bytes body.locals) (flat_map instruction_bytes body.code) (record { spelled = locals; few = formed.0 }) (record { spelled = code; closed = formed.1 }))
 

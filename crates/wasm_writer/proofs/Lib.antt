@@ -1,4 +1,5 @@
 pub mod Begins
+pub mod CustomLemmas
 pub mod DescriptionLemmas
 pub mod EntryLemmas
 pub mod InstructionLemmas
@@ -6,8 +7,10 @@ pub mod LeastModules
 pub mod LeastParts
 pub mod ModuleLemmas
 pub mod Numbers
+pub mod Opened
 pub mod Parts
 pub mod Runs
 pub mod SampleLemmas
 pub mod SectionLemmas
+pub mod Sizes
 pub mod TypeLemmas

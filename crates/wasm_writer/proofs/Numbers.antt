@@ -162,7 +162,7 @@ signed_spare (suc k) z h =
           signed_more k z le ∙ ap (λ (bytes : List ℕ). (low_bits z + 128) ∷ bytes) (signed_spare k (high_bits z) below) ∙ sym (signed_more (suc k) z le)
     ]
 
-step_within : (z : ℤ) → magnitude z < 2 ^ 63 → 64 ≤ magnitude z → signed_bytes z ≡ (low_bits z + 128) ∷ signed_bytes (high_bits z)
+pub step_within : (z : ℤ) → magnitude z < 2 ^ 63 → 64 ≤ magnitude z → signed_bytes z ≡ (low_bits z + 128) ∷ signed_bytes (high_bits z)
 unfolding signed_bytes
 step_within z lt le =
     let below : magnitude (high_bits z) < 64 * 128 ^ 8 = omega (arith, high_magnitude z) in

@@ -1,8 +1,8 @@
 -- Parts one after another: what is spelled part by part is spelled as a whole.
 use Rattle.std.proofs.Common.{◌≡◌, ℕ, zero, suc, ◌+◌, ◌<◌, ◌≤◌, ◌^◌, List, [], ◌∷◌, ◌++◌, length, get_or, take, All, refl, sym, ap, subst, ◌∙◌, append_assoc, arith}
 use Rattle.std.specs.List.{flat_map, AllByRecursion}
-use Rattle.std.proofs.lemmas.List.{length-append, take_more, append-nil}
-use Rattle.std.proofs.lemmas.List.Elements.{recursion_from_All, All-more}
+use Rattle.std.proofs.lemmas.List.{length-append, take_more, take_all, append-nil}
+use Rattle.std.proofs.lemmas.List.Elements.{recursion_from_All, All-more, All-same}
 use Rattle.std.proofs.lemmas.List.Concat.{flat_map-append}
 use Rattle.wasm_tree.specs.Spelled.{Joined, Is, Begins, Each, Vector, Text, Index}
 use Rattle.wasm_writer.specs.Spelling.{unsigned_bytes, vector_bytes, text_bytes, section_bytes}
@@ -45,14 +45,21 @@ vector_count part xs h lt = omega (arith, count_within part xs h, length-append 
 pub vector_elements : {A : Type 0} (part : A → List ℕ) (xs : List A) → length (vector_bytes part xs) < 2 ^ 32 → length (flat_map part xs) < 2 ^ 32
 vector_elements part xs lt = omega (arith, length-append (unsigned_bytes (length xs)) (flat_map part xs))
 
+-- the bytes of one more part
+pub parts_more : {A : Type 0} (part : A → List ℕ) (xs : List A) (i : ℕ) (x : A) → i < length xs → x ≡ get_or xs i x → flat_map part (take (i + 1) xs) ≡ flat_map part (take i xs) ++ part x
+parts_more part xs i x lt is = ap (flat_map part) (take_more xs i x lt) ∙ flat_map-append part (take i xs) (get_or xs i x ∷ []) ∙ ap (λ (tail : List ℕ). flat_map part (take i xs) ++ tail) (append-nil (part (get_or xs i x)) ∙ sym (ap part is))
+
 -- a loop's turn: one more part is appended
 pub appended_more : {A : Type 0} (part : A → List ℕ) (xs : List A) (i : ℕ) (x : A) (start now new : List ℕ) → i < length xs → x ≡ get_or xs i x → now ≡ start ++ flat_map part (take i xs) → new ≡ now ++ part x → new ≡ start ++ flat_map part (take (i + 1) xs)
 appended_more part xs i x start now new lt is before e =
-    let more : flat_map part (take (i + 1) xs) ≡ flat_map part (take i xs) ++ part x = ap (flat_map part) (take_more xs i x lt) ∙ flat_map-append part (take i xs) (get_or xs i x ∷ []) ∙ ap (λ (tail : List ℕ). flat_map part (take i xs) ++ tail) (append-nil (part (get_or xs i x)) ∙ sym (ap part is)) in
-    rw more (e ∙ ap (λ (bytes : List ℕ). bytes ++ part x) before ∙ append_assoc start (flat_map part (take i xs)) (part x))
+    rw (parts_more part xs i x lt is) (e ∙ ap (λ (bytes : List ℕ). bytes ++ part x) before ∙ append_assoc start (flat_map part (take i xs)) (part x))
 
 pub all_more : {A : Type 0} (P : A → Type 0) (xs : List A) (i : ℕ) (x : A) → i < length xs → x ≡ get_or xs i x → All P (take i xs) → P x → All P (take (i + 1) xs)
 all_more P xs i x lt is before h = All-more P xs i x lt before (subst P is h)
+
+-- a loop's end: each has been seen
+pub all_seen : {A : Type 0} (P : A → Type 0) (xs : List A) (i : ℕ) → length xs ≤ i → All P (take i xs) → All P xs
+all_seen P xs i le before = All-same P xs (take i xs) (sym (take_all i xs le)) before
 
 -- ---- a section with something to list, and one with nothing
 

@@ -2,9 +2,10 @@ ghost use Rattle.std.specs.Prelude.{◌≡◌, ◌<◌, ◌≤◌, ◌^◌, ◌+
 ghost use Rattle.wasm_tree.specs.Spelled.{Name as SpellsName, Import_kind, Export_kind, Memory, Begins, mutable_byte};
 ghost use Rattle.wasm_writer.specs.Spelling.{text_bytes, memory_bytes, import_kind_bytes, export_kind_bytes};
 
-use crate::number::{put_indexed, put_signed, put_unsigned};
-use crate::part::{Part, put_each, put_text, put_vector};
-use crate::types::{byte_of_type, put_bounds};
+use crate::number::{put_indexed, put_signed, put_unsigned, size_of_signed, size_of_unsigned};
+use crate::part::{Part, put_each, put_text, put_vector, size_of_each, size_of_vector};
+use crate::size::{add, size_of_text};
+use crate::types::{byte_of_type, put_bounds, size_of_bounds};
 use cm_base::{Name, NoMemory};
 use wasm_tree::{
     ExportEntry, ExportKind, FuncBody, GlobalVar, Import, ImportKind, Limits, LocalRun, Segment,
@@ -41,6 +42,16 @@ fn put_import_kind(out: &mut Vec<u8>, kind: ImportKind) -> Result<(), NoMemory>
     }
 }
 
+fn size_of_import_kind(kind: ImportKind) -> u64
+    ensures exact { result ≡ length (import_kind_bytes kind) }
+    ensures few { result ≤ 12 }
+{
+    match kind {
+        ImportKind::Function(type_index) => 1 + size_of_unsigned(u64::from(type_index)),
+        ImportKind::Memory(limits) => 1 + size_of_bounds(limits.min, limits.max),
+    }
+}
+
 impl Part for Import {
     ghost use Rattle.wasm_tree.specs.Spelled.{Imported};
     ghost use Rattle.wasm_writer.specs.Spelling.{import_bytes};
@@ -58,6 +69,15 @@ impl Part for Import {
         put_import_kind(out, self.kind)?;
         Ok(())
     }
+
+    #[tactic(auto, using(crate::proofs::Sizes::import_sized))]
+    fn size(&self) -> u64 {
+        let names = add(
+            size_of_text(self.module.as_bytes()),
+            size_of_text(self.name.as_bytes()),
+        );
+        add(names, size_of_import_kind(self.kind))
+    }
 }
 
 fn put_export_kind(out: &mut Vec<u8>, kind: ExportKind) -> Result<(), NoMemory>
@@ -67,6 +87,16 @@ fn put_export_kind(out: &mut Vec<u8>, kind: ExportKind) -> Result<(), NoMemory>
     match kind {
         ExportKind::Function(function) => put_indexed(out, 0x00, function),
         ExportKind::Memory(memory) => put_indexed(out, 0x02, memory),
+    }
+}
+
+fn size_of_export_kind(kind: ExportKind) -> u64
+    ensures exact { result ≡ length (export_kind_bytes kind) }
+    ensures few { result ≤ 6 }
+{
+    match kind {
+        ExportKind::Function(function) => 1 + size_of_unsigned(u64::from(function)),
+        ExportKind::Memory(memory) => 1 + size_of_unsigned(u64::from(memory)),
     }
 }
 
@@ -85,6 +115,14 @@ impl Part for ExportEntry {
         put_name(out, &self.name)?;
         put_export_kind(out, self.kind)?;
         Ok(())
+    }
+
+    #[tactic(auto, using(crate::proofs::Sizes::export_sized))]
+    fn size(&self) -> u64 {
+        add(
+            size_of_text(self.name.as_bytes()),
+            size_of_export_kind(self.kind),
+        )
     }
 }
 
@@ -112,6 +150,11 @@ impl Part for GlobalVar {
         out.push(0x0B)?;
         Ok(())
     }
+
+    #[tactic(auto, using(crate::proofs::Sizes::global_sized))]
+    fn size(&self) -> u64 {
+        add(self.value.size(), 3)
+    }
 }
 
 impl Part for LocalRun {
@@ -130,17 +173,23 @@ impl Part for LocalRun {
         out.push(byte_of_type(self.ty))?;
         Ok(())
     }
+
+    #[tactic(auto, using(crate::proofs::Sizes::locals_sized))]
+    fn size(&self) -> u64 {
+        size_of_unsigned(u64::from(self.count)) + 1
+    }
 }
 
 impl Part for FuncBody {
-    ghost use Rattle.wasm_tree.specs.Spelled.{Body, IsClosed, count_of_locals, most_locals};
+    ghost use Rattle.wasm_tree.specs.Spelled.{Body};
     ghost use Rattle.wasm_writer.specs.Spelling.{body_bytes};
+    ghost use Rattle.wasm_writer.specs.Writable.{IsFormed};
 
     ghost written = { body_bytes };
 
     ghost allowed = { Body };
 
-    ghost formed = { λ body. (count_of_locals body.locals ≤ most_locals) × IsClosed [] body.code };
+    ghost formed = { IsFormed };
 
     #[tactic(auto, using(crate::proofs::EntryLemmas::body_spelled, crate::proofs::EntryLemmas::body_sizes))]
     fn put(&self, out: &mut Vec<u8>) -> Result<(), NoMemory> {
@@ -149,6 +198,15 @@ impl Part for FuncBody {
         put_each(&mut contents, self.code.as_slice())?;
         put_text(out, &contents)?;
         Ok(())
+    }
+
+    #[tactic(auto, using(crate::proofs::Sizes::body_sized))]
+    fn size(&self) -> u64 {
+        let contents = add(
+            size_of_vector(self.locals.as_slice()),
+            size_of_each(self.code.as_slice()),
+        );
+        add(size_of_unsigned(contents), contents)
     }
 }
 
@@ -170,5 +228,12 @@ impl Part for Segment {
         out.push(0x0B)?;
         put_text(out, self.bytes.as_slice())?;
         Ok(())
+    }
+
+    #[tactic(auto, using(crate::proofs::Sizes::segment_sized))]
+    fn size(&self) -> u64 {
+        let memory = size_of_unsigned(u64::from(self.memory));
+        let offset = size_of_signed(i64::from(self.offset));
+        add(memory + offset + 2, size_of_text(self.bytes.as_slice()))
     }
 }

@@ -1,13 +1,15 @@
-ghost use Rattle.std.specs.Prelude.{◌≡◌, ◌<◌, ◌^◌, ◌++◌, ◌∷◌, [], length, OnOk, Option};
+ghost use Rattle.std.specs.Prelude.{◌≡◌, ◌+◌, ◌<◌, ◌≤◌, ◌^◌, ◌++◌, ◌∷◌, [], length, OnOk, Option};
 ghost use Rattle.wasm_tree.specs.Spelled.{Place, Begins, Joined, Vector, Index, Signed, result_byte};
+ghost use Rattle.wasm_writer.specs.Size.{capped};
 ghost use Rattle.wasm_writer.specs.Spelling.{unsigned_bytes, signed_bytes, vector_bytes, place_bytes};
 
-use crate::number::{put_indexed, put_signed, put_unsigned};
+use crate::number::{put_indexed, put_signed, put_unsigned, size_of_signed, size_of_unsigned};
 use crate::opcode::{
     opcode_of_binary, opcode_of_compare, opcode_of_convert, opcode_of_load, opcode_of_store,
     opcode_of_test, opcode_of_unary,
 };
-use crate::part::{Part, put_vector};
+use crate::part::{Part, put_vector, size_of_vector};
+use crate::size::add;
 use crate::types::byte_of_type;
 use cm_base::NoMemory;
 use wasm_tree::{Instr, MemArg, ValType};
@@ -85,6 +87,31 @@ fn put_table(out: &mut Vec<u8>, labels: &[u32], other: u32) -> Result<(), NoMemo
     Ok(())
 }
 
+/// The size of an opcode and an index.
+fn size_of_indexed(index: u32) -> u64
+    ensures exact { result ≡ 1 + length (unsigned_bytes index) }
+    ensures few { result ≤ 6 }
+{
+    1 + size_of_unsigned(u64::from(index))
+}
+
+/// The size of an opcode and where it loads from or stores to.
+#[tactic(auto, using(crate::proofs::Sizes::place_sized))]
+fn size_of_placed(place: MemArg) -> u64
+    ensures exact { result ≡ 1 + length (place_bytes place) }
+    ensures few { result ≤ 11 }
+{
+    1 + size_of_unsigned(u64::from(place.align)) + size_of_unsigned(u64::from(place.offset))
+}
+
+/// The size of the labels of a `br_table` behind its opcode.
+#[tactic(auto, using(crate::proofs::Sizes::table_sized))]
+fn size_of_table(labels: &[u32], other: u32) -> u64
+    ensures { result ≡ capped (1 + length (vector_bytes unsigned_bytes labels.now ++ unsigned_bytes other)) }
+{
+    add(size_of_vector(labels), size_of_indexed(other))
+}
+
 impl Part for Instr {
     ghost use Rattle.wasm_tree.specs.Spelled.{Instruction};
     ghost use Rattle.wasm_writer.specs.Spelling.{instruction_bytes};
@@ -126,6 +153,40 @@ impl Part for Instr {
             Instr::Unary(ty, op) => put_byte(out, opcode_of_unary(*ty, *op)),
             Instr::Binary(ty, op) => put_byte(out, opcode_of_binary(*ty, *op)),
             Instr::Convert(op) => put_byte(out, opcode_of_convert(*op)),
+        }
+    }
+
+    fn size(&self) -> u64 {
+        match self {
+            Instr::Unreachable => 1,
+            Instr::Nop => 1,
+            Instr::Block(_) => 2,
+            Instr::Loop(_) => 2,
+            Instr::If(_) => 2,
+            Instr::Else => 1,
+            Instr::End => 1,
+            Instr::Br(label) => size_of_indexed(*label),
+            Instr::BrIf(label) => size_of_indexed(*label),
+            Instr::BrTable(labels, other) => size_of_table(labels.as_slice(), *other),
+            Instr::Return => 1,
+            Instr::Call(function) => size_of_indexed(*function),
+            Instr::Drop => 1,
+            Instr::Select => 1,
+            Instr::LocalGet(local) => size_of_indexed(*local),
+            Instr::LocalSet(local) => size_of_indexed(*local),
+            Instr::LocalTee(local) => size_of_indexed(*local),
+            Instr::GlobalGet(global) => size_of_indexed(*global),
+            Instr::GlobalSet(global) => size_of_indexed(*global),
+            Instr::Load(_, place) => size_of_placed(*place),
+            Instr::Store(_, place) => size_of_placed(*place),
+            Instr::MemorySize => 2,
+            Instr::I32Const(value) => 1 + size_of_signed(i64::from(*value)),
+            Instr::I64Const(value) => 1 + size_of_signed(*value),
+            Instr::Test(_) => 1,
+            Instr::Compare(_, _) => 1,
+            Instr::Unary(_, _) => 1,
+            Instr::Binary(_, _) => 1,
+            Instr::Convert(_) => 1,
         }
     }
 }

@@ -1,4 +1,4 @@
-ghost use Rattle.std.specs.Prelude.{◌≡◌, ◌++◌, ◌∷◌, OnOk, FitsSigned};
+ghost use Rattle.std.specs.Prelude.{◌≡◌, ◌≤◌, ◌++◌, ◌∷◌, ◌⊎◌, length, pos, negsuc, OnOk, FitsSigned};
 ghost use Rattle.std.specs.Int.{w32};
 ghost use Rattle.wasm_tree.specs.Spelled.{Begins, Index, Signed};
 ghost use Rattle.wasm_writer.specs.Spelling.{unsigned_bytes, signed_bytes};
@@ -45,4 +45,50 @@ pub fn put_indexed(out: &mut Vec<u8>, byte: u8, index: u32) -> Result<(), NoMemo
     out.push(byte)?;
     put_unsigned(out, index)?;
     Ok(())
+}
+
+/// How many bytes the shortest unsigned LEB128 of the number has; a number past 32 bits, which has none, is
+/// given five.
+#[tactic(auto, using(crate::proofs::Sizes::one_byte, crate::proofs::Sizes::two_bytes, crate::proofs::Sizes::three_bytes, crate::proofs::Sizes::four_bytes, crate::proofs::Sizes::five_bytes))]
+pub fn size_of_unsigned(number: u64) -> u64
+    ensures exact { result ≡ length (unsigned_bytes number) }
+    ensures few { result ≤ 5 }
+{
+    if number < 128 {
+        1
+    } else if number < 16_384 {
+        2
+    } else if number < 2_097_152 {
+        3
+    } else if number < 268_435_456 {
+        4
+    } else {
+        5
+    }
+}
+
+/// The number, or for one below 0 its complement.
+fn magnitude(number: i64) -> u64
+    ensures { (number ≡ pos result) ⊎ (number ≡ negsuc result) }
+{
+    if number < 0 {
+        (number + 1).unsigned_abs()
+    } else {
+        number.unsigned_abs()
+    }
+}
+
+/// How many bytes the shortest signed LEB128 of the number has.
+#[tactic(auto, using(crate::proofs::Sizes::signed_size_as, crate::proofs::Sizes::signed_size_few, crate::proofs::Sizes::signed_size_more, crate::proofs::Sizes::signed_size_last))]
+pub fn size_of_signed(number: i64) -> u64
+    ensures exact { result ≡ length (signed_bytes number) }
+    ensures few { result ≤ 10 }
+{
+    let mut rest = magnitude(number);
+    let mut size = 1;
+    while rest >= 64 {
+        size += 1;
+        rest /= 128;
+    }
+    size
 }

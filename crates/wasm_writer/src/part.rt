@@ -1,9 +1,11 @@
 ghost use Rattle.std.specs.Prelude.{◌≡◌, ◌++◌, ◌<◌, ◌≤◌, ◌^◌, length, All, OnOk};
 ghost use Rattle.std.specs.List.{flat_map};
 ghost use Rattle.wasm_tree.specs.Spelled.{Each, Vector, Text};
+ghost use Rattle.wasm_writer.specs.Size.{capped};
 ghost use Rattle.wasm_writer.specs.Spelling.{vector_bytes, text_bytes, section_bytes};
 
-use crate::number::put_unsigned;
+use crate::number::{put_unsigned, size_of_unsigned};
+use crate::size::add;
 use cm_base::NoMemory;
 
 /// A part of a module: its shortest bytes are `written`, and `allowed` says which bytes spell it.
@@ -23,6 +25,10 @@ pub trait Part {
         requires well { formed self.now }
         ensures appended { OnOk result (out.new.items ≡ out.old.items ++ written self.now) }
         ensures spelled { OnOk result (allowed self.now (written self.now)) };
+
+    /// How many bytes `put` appends, counted as far as `size::BOUND`.
+    fn size(&self) -> u64
+        ensures { result ≡ capped (length (written self.now)) };
 }
 
 /// Appends the parts one after another.
@@ -50,6 +56,26 @@ pub fn put_vector<P: Part>(out: &mut Vec<u8>, parts: &[P]) -> Result<(), NoMemor
 {
     put_unsigned(out, parts.len() as u32)?;
     put_each(out, parts)
+}
+
+/// The size of the parts one after another.
+#[tactic(auto, using(crate::proofs::Sizes::sized_more))]
+pub fn size_of_each<P: Part>(parts: &[P]) -> u64
+    ensures { result ≡ capped (length (flat_map P.written parts.now)) }
+{
+    let mut size = 0;
+    for part in parts {
+        size = add(size, part.size());
+    }
+    size
+}
+
+/// The size of the count of the parts, and the parts.
+#[tactic(auto, using(crate::proofs::Sizes::vector_sized))]
+pub fn size_of_vector<P: Part>(parts: &[P]) -> u64
+    ensures { result ≡ capped (length (vector_bytes P.written parts.now)) }
+{
+    add(size_of_unsigned(parts.len() as u64), size_of_each(parts))
 }
 
 /// Appends the count of the bytes, and the bytes.

@@ -150,7 +150,7 @@ fn sample_codes(alloc: Global) -> Result<FuncBodies, NoMemory>
     Ok(bodies)
 }
 
-fn sample(alloc: Global) -> Result<Module, NoMemory>
+pub fn sample(alloc: Global) -> Result<Module, NoMemory>
     ensures { IfOk result IsWritable }
 {
     Ok(Module {

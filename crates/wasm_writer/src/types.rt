@@ -1,9 +1,10 @@
-ghost use Rattle.std.specs.Prelude.{◌≡◌, ◌++◌, ◌∷◌, [], OnOk};
+ghost use Rattle.std.specs.Prelude.{◌≡◌, ◌≤◌, ◌++◌, ◌∷◌, [], length, OnOk};
 ghost use Rattle.wasm_tree.specs.Spelled.{Bounds, type_byte, Type_of_value};
 ghost use Rattle.wasm_writer.specs.Spelling.{bounds_bytes};
 
-use crate::number::put_unsigned;
-use crate::part::{Part, put_vector};
+use crate::number::{put_unsigned, size_of_unsigned};
+use crate::part::{Part, put_vector, size_of_vector};
+use crate::size::add;
 use cm_base::NoMemory;
 use wasm_tree::{FuncType, Limits, ValType};
 
@@ -19,6 +20,10 @@ impl Part for u32 {
 
     fn put(&self, out: &mut Vec<u8>) -> Result<(), NoMemory> {
         put_unsigned(out, *self)
+    }
+
+    fn size(&self) -> u64 {
+        size_of_unsigned(u64::from(*self))
     }
 }
 
@@ -46,6 +51,10 @@ impl Part for ValType {
         out.push(byte_of_type(*self))?;
         Ok(())
     }
+
+    fn size(&self) -> u64 {
+        1
+    }
 }
 
 impl Part for FuncType {
@@ -63,6 +72,15 @@ impl Part for FuncType {
         out.push(0x60)?;
         put_vector(out, self.params.as_slice())?;
         put_vector(out, self.results.as_slice())
+    }
+
+    #[tactic(auto, using(crate::proofs::Sizes::function_type_sized))]
+    fn size(&self) -> u64 {
+        let lists = add(
+            size_of_vector(self.params.as_slice()),
+            size_of_vector(self.results.as_slice()),
+        );
+        add(1, lists)
     }
 }
 
@@ -87,6 +105,18 @@ pub fn put_bounds(out: &mut Vec<u8>, least: u32, most: Option<u32>) -> Result<()
     }
 }
 
+/// How many bytes the bounds of a memory take.
+#[tactic(auto, using(crate::proofs::Sizes::least_sized, crate::proofs::Sizes::bounds_sized))]
+pub fn size_of_bounds(least: u32, most: Option<u32>) -> u64
+    ensures exact { result ≡ length (bounds_bytes least most) }
+    ensures few { result ≤ 11 }
+{
+    match most {
+        None => 1 + size_of_unsigned(u64::from(least)),
+        Some(most) => { 1 + size_of_unsigned(u64::from(least)) + size_of_unsigned(u64::from(most)) }
+    }
+}
+
 impl Part for Limits {
     ghost use Rattle.wasm_tree.specs.Spelled.{Memory};
     ghost use Rattle.wasm_writer.specs.Spelling.{memory_bytes};
@@ -99,5 +129,9 @@ impl Part for Limits {
 
     fn put(&self, out: &mut Vec<u8>) -> Result<(), NoMemory> {
         put_bounds(out, self.min, self.max)
+    }
+
+    fn size(&self) -> u64 {
+        size_of_bounds(self.min, self.max)
     }
 }

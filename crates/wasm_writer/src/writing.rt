@@ -40,8 +40,8 @@ fn put_customs(out: &mut Vec<u8>, customs: &[Custom]) -> Result<(), NoMemory>
 
 /// The module's bytes in their shortest spelling (Core Specification 1.0, chapter 5): sections in the order
 /// of their ids, none for an empty list, and then `customs` as they stand. Only want of memory fails. A caller
-/// knows `IsWritable` of a module that was read by the law `spelled_is_writable`, and of one that it makes
-/// by the sizes and the order of what it puts there.
+/// knows `IsWritable` of a module that was read by the law `spelled_is_writable`, of one that it makes by the
+/// sizes and the order of what it puts there, and of any other by the test `is_writable`.
 #[tactic(auto, using(crate::proofs::ModuleLemmas::counts, crate::proofs::ModuleLemmas::module_spelled))]
 pub fn write_module(alloc: Global, module: &Module) -> Result<Bytes, NoMemory>
     requires { IsWritable «module».now }

@@ -1,4 +1,4 @@
-ghost use Rattle.std.specs.Prelude.{◌≡◌, ℕ, ◌≤◌, Option, Some, None, IfSome};
+ghost use Rattle.std.specs.Prelude.{◌≡◌, ℕ, ◌≤◌, length, Option, Some, None, IfSome};
 ghost use Rattle.cm_io.specs.Count.{Rose};
 ghost use Rattle.cm_io.specs.Files.{Files, file_at, first_bytes, KeepsOthers};
 ghost use Rattle.cm_io.specs.Folder.{IfRead, OnAbsent, OnReadFailed, OnWritten, OnWriteFailed, OnWriteNoMemory};
@@ -45,6 +45,7 @@ pub trait Folder {
         ensures faults_stay { faults self.old ≤ faults self.new }
         ensures absences_stay { absences self.old ≤ absences self.new }
         ensures bytes { IfRead result (λ bytes. IfSome (holds self.old) (λ files. first_bytes most (file_at files name.now) ≡ Some bytes)) }
+        ensures few { IfRead result (λ bytes. length bytes ≤ most) }
         ensures absent_counted { OnAbsent result (Rose (absences self.old) (absences self.new)) }
         ensures absent_held_not { OnAbsent result (IfSome (holds self.old) (λ files. file_at files name.now ≡ None)) }
         ensures failed_counted { OnReadFailed result (Rose (faults self.old) (faults self.new)) };

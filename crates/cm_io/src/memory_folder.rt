@@ -1,4 +1,4 @@
-ghost use Rattle.std.specs.Prelude.{◌≡◌, ◌↔◌, Contains, Option, Some, None};
+ghost use Rattle.std.specs.Prelude.{◌≡◌, ◌≤◌, length, ◌↔◌, Contains, Option, Some, None};
 ghost use Rattle.std.specs.Option.{option_copied};
 ghost use Rattle.cm_io.specs.Files.{file_at, first_bytes, HasDistinctNames, SameElsewhere};
 ghost use Rattle.cm_io.specs.Folder.{IfRead, OnWritten};
@@ -71,6 +71,7 @@ impl Folder for MemoryFolder {
         ensures failed { (result ≡ Read.Failed) ↔ Contains self.old.failing self.old.calls }
         ensures absent { (result ≡ Read.Absent) ↔ ((¬ Contains self.old.failing self.old.calls) × (file_at self.old.files name.now ≡ None)) }
         ensures bytes { IfRead result (λ bytes. first_bytes most (file_at self.old.files name.now) ≡ Some bytes) }
+        ensures few { IfRead result (λ bytes. length bytes ≤ most) }
     {
         let failing = has_call(&self.failing, self.calls);
         self.calls = raised(self.calls);

@@ -8,6 +8,24 @@ use Rattle.render_program.specs.declared.status.Target.TheVariants as target
 use Rattle.render_program.specs.declared.status.Status.{Status}
 use Rattle.render_program.specs.declared.status.Status.TheVariants as status
 
+-- the number that the program exits with
+abbrev pub number_of : Status → ℕ
+number_of status.Ok = 0
+number_of status.Usage = 1
+number_of (status.Absent f) = 2
+number_of (status.ReadFault f) = 3
+number_of (status.TooBig f length) = 4
+number_of (status.Refused r) = 5
+number_of (status.StateRefused fault) = 6
+number_of (status.InputRefused fault) = 7
+number_of (status.ModuleRefused refused) = 8
+number_of (status.TurnsSpent at) = 9
+number_of (status.StepsSpent at) = 10
+number_of (status.Trapped at) = 11
+number_of (status.WriteFault t) = 12
+number_of (status.ListenerFault number) = 13
+number_of status.NoMemory = 14
+
 -- a refusal of what no code covers so far, at this place
 abbrev pub not_yet : ℕ → ℕ → ℕ → Refused
 not_yet number line column = record { cause = NotYet; place = record { file = number; line = line; column = column }; cycle = [] }

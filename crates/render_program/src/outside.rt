@@ -1,7 +1,9 @@
 //! The adapters over real files and streams. They tell no content, since what a file or a stream holds is
 //! outside every proof; each counts its errors, up to the greatest number of 64 bits.
 
-use cm_base::{Bytes, Items};
+ghost use Rattle.std.specs.Prelude.{◌≡◌, ◌≤◌, length, IfOk};
+
+use cm_base::Items;
 use cm_io::{Folder, Put, Read, Sink, Wrote};
 use std::alloc::{AllocError, Global};
 use std::fs;
@@ -20,7 +22,10 @@ pub struct Disk<'a, R: Files> {
 }
 
 impl<'a, R: Files> Disk<'a, R> {
-    pub fn new(files: &'a R) -> Disk<'a, R> {
+    pub fn new(files: &'a R) -> Disk<'a, R>
+        ensures faults { result.faults ≡ 0 }
+        ensures absences { result.absences ≡ 0 }
+    {
         Disk {
             files,
             faults: 0,
@@ -67,7 +72,9 @@ impl<'a, R: Files> Folder for Disk<'a, R> {
 }
 
 /// The first bytes of a file, at most so many.
-fn read_most<R: Files>(files: &R, alloc: Global, name: &str, most: u64) -> io::Result<Vec<u8>> {
+fn read_most<R: Files>(files: &R, alloc: Global, name: &str, most: u64) -> io::Result<Vec<u8>>
+    ensures { IfOk result (λ bytes. length bytes.items ≤ most) }
+{
     let mut file = fs::open(files, name)?;
     let mut bytes = Vec::new(alloc);
     let mut chunk = [0u8; CHUNK];
@@ -114,7 +121,9 @@ pub struct Stream<W: Write + Drop> {
 }
 
 impl<W: Write + Drop> Stream<W> {
-    pub fn new(to: W) -> Stream<W> {
+    pub fn new(to: W) -> Stream<W>
+        ensures { result.faults ≡ 0 }
+    {
         Stream { to, faults: 0 }
     }
 }

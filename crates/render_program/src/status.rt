@@ -1,3 +1,6 @@
+ghost use Rattle.std.specs.Prelude.{◌≡◌};
+ghost use Rattle.render_program.specs.Statuses.{number_of};
+
 use cm_base::{FormFault, Refused};
 use wasm_tree::ModuleRefused;
 
@@ -48,7 +51,9 @@ pub enum Status {
 
 impl Status {
     /// The number that the program exits with.
-    pub fn number(&self) -> u8 {
+    pub fn number(&self) -> u8
+        ensures { result ≡ number_of self.now }
+    {
         match self {
             Status::Ok => 0,
             Status::Usage => 1,

@@ -3,10 +3,10 @@ use Rattle.std.proofs.Common.{◌≡◌, [], ◌∷◌, refl, pos, negsuc}
 use Rattle.std.specs.Fmt.{digits}
 use Rattle.cm_number.specs.Conversion.{to_signed, floor_modulus}
 use Rattle.cm_base.specs.declared.play.Item.TheVariants as item
-use Rattle.cm_base.specs.Parts.{Send, Frame, Ended, Out, Trapped, play}
+use Rattle.cm_base.specs.Parts.{Send, Frame, Ended, Out, Trapped, play, play_part, NotBegun, PartEnds, PartSpent}
 use Rattle.wasm_tree.specs.Reduce.{pieces, plain, act, exec}
 use Rattle.wasm_tree.specs.HostRun.{heard}
-use Rattle.wasm_examples.specs.Hosts.{run_of_event, add_event, pass_event, divide_event, run_of_frames, run_of_mix, saved_level}
+use Rattle.wasm_examples.specs.Hosts.{run_of_event, part_of_event, add_event, pass_event, divide_event, run_of_frames, run_of_mix, saved_level}
 
 -- the event at frame 1 adds 5 to the sum
 pub adds : run_of_event add_event (pos 5) 5 ≡ record { trace = item.Frame 0 (pos 0 ∷ []) ∷ item.Frame 1 (pos 5 ∷ []) ∷ []; ending = Ended }
@@ -22,6 +22,20 @@ passes = refl
 pub spends : run_of_event add_event (pos 5) 4 ≡ record { trace = item.Frame 0 (pos 0 ∷ []) ∷ []; ending = Out (Send 1 0 (pos 5 ∷ []) ([] ∷ [] ∷ [] ∷ [])) }
 unfolding pieces plain act exec heard play digits to_signed floor_modulus
 spends = refl
+
+-- frame 0 takes no more than four
+pub part_ends : part_of_event add_event (pos 5) 1 4 ≡ PartEnds
+unfolding pieces plain act exec heard play_part digits to_signed floor_modulus
+part_ends = refl
+
+pub part_spends : part_of_event add_event (pos 5) 2 4 ≡ PartSpent
+unfolding pieces plain act exec heard play_part digits to_signed floor_modulus
+part_spends = refl
+
+-- nothing comes after it
+pub part_waits : part_of_event add_event (pos 5) 3 4 ≡ NotBegun
+unfolding pieces plain act exec heard play_part digits to_signed floor_modulus
+part_waits = refl
 
 -- a division by 0 ends the run
 pub traps : run_of_event divide_event (pos 0) 4 ≡ record { trace = item.Frame 0 (pos 0 ∷ []) ∷ []; ending = Trapped (Send 1 0 (pos 0 ∷ []) ([] ∷ [] ∷ [] ∷ [])) }

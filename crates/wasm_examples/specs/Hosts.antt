@@ -7,7 +7,7 @@ use Rattle.cm_base.specs.declared.host.Kind.{Kind}
 use Rattle.cm_base.specs.declared.host.Kind.TheVariants.{Stream, Value, Event}
 use Rattle.cm_base.specs.declared.play.Saved.{Saved}
 use Rattle.cm_base.specs.declared.play.Script.{Script}
-use Rattle.cm_base.specs.Parts.{Outcome}
+use Rattle.cm_base.specs.Parts.{Outcome, PartEnd}
 use Rattle.wasm_tree.specs.declared.module.ValType.TheVariants.{I32}
 use Rattle.wasm_tree.specs.declared.module.Limits.{Limits}
 use Rattle.wasm_tree.specs.declared.module.Import.{Import}
@@ -27,7 +27,7 @@ use Rattle.wasm_tree.specs.declared.interface.Interface.TheVariants.{Single, Blo
 use Rattle.wasm_tree.specs.Section.{Section, Slot}
 use Rattle.wasm_tree.specs.Spelled.{cmajor}
 use Rattle.wasm_tree.specs.Valid.{no_type, emit_type}
-use Rattle.wasm_tree.specs.HostRun.{host_run}
+use Rattle.wasm_tree.specs.HostRun.{host_run, host_part}
 
 abbrev pub slot_of : Flow → Kind → List ℕ → ℕ → Slot
 slot_of flow kind name address = record { end = record { flow = flow; kind = kind; name = name; shape = Int32 ∷ []; parameter = None }; address = address }
@@ -111,6 +111,10 @@ event_script value = record { frames = 2; streams = []; values = []; events = re
 -- a run of two frames with the event, where so many reductions may be spent on each part
 abbrev pub run_of_event : List Instr → ℤ → ℕ → Outcome
 run_of_event code value steps = host_run (event_module code) three_slots [] (event_script value) 2 steps
+
+-- how one part of it comes out: `init`, frame 0, the event and frame 1 are the parts 0 to 3
+abbrev pub part_of_event : List Instr → ℤ → ℕ → ℕ → PartEnd
+part_of_event code value place steps = host_part (event_module code) three_slots [] (event_script value) 2 place steps
 
 -- ---- blocks
 

@@ -7,7 +7,7 @@
 
 ghost use Rattle.std.specs.Prelude.{◌≡◌, ℕ, List, [], ◌∷◌, length, Bool, false, None, pos, negsuc};
 ghost use Rattle.cm_base.specs.declared.play.Item.TheVariants as item;
-ghost use Rattle.cm_base.specs.Parts.{Send, Frame, Ended, Out as PartOut, Trapped as PartTrapped};
+ghost use Rattle.cm_base.specs.Parts.{Send, Frame, Ended, Out as PartOut, Trapped as PartTrapped, NotBegun, PartEnds, PartSpent};
 ghost use Rattle.wasm_tree.specs.declared.instr.Instr.{Instr};
 ghost use Rattle.wasm_tree.specs.declared.instr.Instr.TheVariants as instr;
 ghost use Rattle.wasm_tree.specs.declared.op.LoadOp.TheVariants as load;
@@ -21,7 +21,7 @@ ghost use Rattle.wasm_tree.specs.Valid.{Valid};
 ghost use Rattle.wasm_examples.specs.Bytes.{nested_code, stray_else, second_else, empty_module, type_module, type_bytes, version_two, next_body, body_with};
 ghost use Rattle.wasm_examples.specs.Runs.{run_of, EndsIn, block_code, loop_code, next_function, call_code, table_code, binary_code, least, memory_code, load_code};
 ghost use Rattle.wasm_examples.specs.Types.{HasType, sum_code, choice_code, add_code};
-ghost use Rattle.wasm_examples.specs.Hosts.{run_of_event, add_event, pass_event, divide_event, event_module, pageless_module, three_slots, three_slots_bytes, run_of_frames, run_of_mix, saved_level};
+ghost use Rattle.wasm_examples.specs.Hosts.{run_of_event, part_of_event, add_event, pass_event, divide_event, event_module, pageless_module, three_slots, three_slots_bytes, run_of_frames, run_of_mix, saved_level};
 
 /// Numbers (5.2.2): 44100 in three bytes or in five, no number of 32 bits in six bytes, none in a byte that
 /// asks for another, and -1 and -65 as signed numbers.
@@ -90,12 +90,15 @@ pub fn modules_are_valid()
 {}
 
 /// Runs of a host over two frames, with an event at the second: what is told, in order, and where the run
-/// ends. The addition of the event's number takes five reductions, so with four its part is spent; a division
-/// by the number traps where it is 0. A call of `frames` tells two frames, and a second call the third.
+/// ends. The addition of the event's number takes five reductions, so with four its part is spent, the part
+/// before it ends and the one after it isn't begun; a division by the number traps where it is 0. A call of `frames` tells two frames, and a second call the third.
 pub fn hosts_run()
     ensures adds { run_of_event add_event (pos 5) 5 ≡ record { trace = item.Frame 0 (pos 0 ∷ []) ∷ item.Frame 1 (pos 5 ∷ []) ∷ []; ending = Ended } }
     ensures passes { run_of_event pass_event (pos 5) 4 ≡ record { trace = item.Frame 0 (pos 0 ∷ []) ∷ item.Event 1 2 (pos 5 ∷ []) ∷ item.Frame 1 (pos 0 ∷ []) ∷ []; ending = Ended } }
     ensures spends { run_of_event add_event (pos 5) 4 ≡ record { trace = item.Frame 0 (pos 0 ∷ []) ∷ []; ending = PartOut (Send 1 0 (pos 5 ∷ []) ([] ∷ [] ∷ [] ∷ [])) } }
+    ensures part_ends { part_of_event add_event (pos 5) 1 4 ≡ PartEnds }
+    ensures part_spends { part_of_event add_event (pos 5) 2 4 ≡ PartSpent }
+    ensures part_waits { part_of_event add_event (pos 5) 3 4 ≡ NotBegun }
     ensures traps { run_of_event divide_event (pos 0) 4 ≡ record { trace = item.Frame 0 (pos 0 ∷ []) ∷ []; ending = PartTrapped (Send 1 0 (pos 0 ∷ []) ([] ∷ [] ∷ [] ∷ [])) } }
     ensures blocks { run_of_frames 5 ≡ record { trace = item.Frame 0 (pos 7 ∷ []) ∷ item.Frame 1 (pos 8 ∷ []) ∷ item.Frame 2 (pos 7 ∷ []) ∷ []; ending = Ended } }
     ensures blocks_spend { run_of_frames 4 ≡ record { trace = item.Frame 0 (pos 7 ∷ []) ∷ []; ending = PartOut (Frame 1 ([] ∷ [])) } }

@@ -1,3 +1,4 @@
+pub mod Adapters
 pub mod FileLemmas
 pub mod StageLemmas
 pub mod EndLemmas

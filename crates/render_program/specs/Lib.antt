@@ -4,3 +4,4 @@ pub mod Files
 pub mod Stages
 pub mod Statuses
 pub mod Words
+pub mod Outside

@@ -1,7 +1,12 @@
 //! The adapters over real files and streams. They tell no content, since what a file or a stream holds is
-//! outside every proof; each counts its errors, up to the greatest number of 64 bits.
+//! outside every proof; each counts its errors, up to the greatest number of 64 bits. What they read from a
+//! reader and write to a writer is proved for every one that tells what it has.
 
-ghost use Rattle.std.specs.Prelude.{◌≡◌, ◌≤◌, length, IfOk};
+ghost use Rattle.std.specs.Prelude.{◌≡◌, ◌≤◌, length, take, IfOk, IfSome, OnOk};
+ghost use Rattle.std.specs.Io.KnownBytes.{Appends};
+ghost use Rattle.cm_io.specs.Count.{Rose};
+ghost use Rattle.cm_io.specs.Sink.{OnPut, OnPutFailed, OnPutNoMemory};
+ghost use Rattle.render_program.specs.Outside.{AppendsFront};
 
 use cm_base::Items;
 use cm_io::{Folder, Put, Read, Sink, Wrote};
@@ -76,17 +81,23 @@ fn read_most<R: Files>(files: &R, alloc: Global, name: &str, most: u64) -> io::R
     ensures { IfOk result (λ bytes. length bytes.items ≤ most) }
 {
     let mut file = fs::open(files, name)?;
+    read_front(&mut file, alloc, most)
+}
+
+/// The first bytes that a reader gives, at most so many, or all where it has no more.
+#[tactic(auto, using(crate::proofs::Adapters::consumes_none, crate::proofs::Adapters::consumes_more, crate::proofs::Adapters::front_full, crate::proofs::Adapters::front_end))]
+fn read_front<R: io::Read>(from: &mut R, alloc: Global, most: u64) -> io::Result<Vec<u8>>
+    ensures few { IfOk result (λ bytes. length bytes.items ≤ most) }
+    ensures front { IfOk result (λ bytes. IfSome (R.remaining from.old) (λ whole. bytes.items ≡ take most whole)) }
+{
     let mut bytes = Vec::new(alloc);
     let mut chunk = [0u8; CHUNK];
     let mut left = most;
-    for _ in 0..u64::MAX {
+    while left > 0 {
         let want = left.min(CHUNK as u64) as usize;
-        if want == 0 {
-            break;
-        }
-        let count = file.read(&mut chunk[..want])?;
+        let count = from.read(&mut chunk[..want])?;
         if count == 0 {
-            break;
+            return Ok(bytes);
         }
         bytes.extend_from_slice(&chunk[..count])?;
         left -= count as u64;
@@ -100,8 +111,13 @@ fn write_whole<R: Files>(files: &R, name: &str, bytes: &[u8]) -> io::Result<()> 
     write_each(&mut file, bytes)
 }
 
-/// Writes the bytes, piece by piece. A write that takes nothing is an error.
-fn write_each<W: Write>(to: &mut W, bytes: &[u8]) -> io::Result<()> {
+/// Writes the bytes, piece by piece. A write that takes nothing is an error. After an error some of the first
+/// bytes are written.
+#[tactic(auto, using(crate::proofs::Adapters::wrote_none, crate::proofs::Adapters::wrote_more, crate::proofs::Adapters::wrote_kept, crate::proofs::Adapters::wrote_front, crate::proofs::Adapters::wrote_all))]
+fn write_each<W: Write>(to: &mut W, bytes: &[u8]) -> io::Result<()>
+    ensures whole { OnOk result (Appends (W.contents to.old) (W.contents to.new) bytes.now) }
+    ensures part { AppendsFront (W.contents to.old) (W.contents to.new) bytes.now }
+{
     let mut rest = bytes;
     while !rest.is_empty() {
         let count = to.write(rest)?;
@@ -137,7 +153,14 @@ impl<W: Write + Drop> Sink for Stream<W> {
 
     ghost refusals = { λ stream. 0 };
 
-    fn put(&mut self, piece: &[u8]) -> Put {
+    fn put(&mut self, piece: &[u8]) -> Put
+        ensures faults_stay { self.old.faults ≤ self.new.faults }
+        ensures failed_counted { OnPutFailed result (Rose self.old.faults self.new.faults) }
+        ensures memory { OnPutNoMemory result ⊥ }
+        // what the stream's writer holds, where that is known
+        ensures reaches { OnPut result (Appends (W.contents self.old.to) (W.contents self.new.to) piece.now) }
+        ensures part { AppendsFront (W.contents self.old.to) (W.contents self.new.to) piece.now }
+    {
         match put_flushed(&mut self.to, piece) {
             Ok(()) => Put::Ok,
             Err(_) => {
@@ -148,7 +171,12 @@ impl<W: Write + Drop> Sink for Stream<W> {
     }
 }
 
-fn put_flushed<W: Write>(to: &mut W, piece: &[u8]) -> io::Result<()> {
+/// Writes the piece and flushes it.
+#[tactic(auto, using(crate::proofs::Adapters::appends_kept, crate::proofs::Adapters::front_kept))]
+fn put_flushed<W: Write>(to: &mut W, piece: &[u8]) -> io::Result<()>
+    ensures whole { OnOk result (Appends (W.contents to.old) (W.contents to.new) piece.now) }
+    ensures part { AppendsFront (W.contents to.old) (W.contents to.new) piece.now }
+{
     write_each(to, piece)?;
     to.flush()
 }

@@ -1,4 +1,5 @@
 pub mod EndedParts
+pub mod ExampleBytes
 pub mod Source
 pub mod Target
 pub mod Tasks

@@ -3,7 +3,9 @@
 //! that the writer can write.
 #![tactic(auto)]
 
+mod example;
 mod parts;
 mod pass;
 
+pub use example::the_example_is_spelled;
 pub use pass::build_through;

@@ -1,0 +1,58 @@
+#!/usr/bin/env bash
+# wasm_copy over real files, of which the contracts say nothing: its lines, its statuses, and what it writes.
+set -u
+cd "$(dirname "$0")/.." || exit 2
+copy=crates/wasm_copy/out/wasm_copy
+if [ ! -x "$copy" ]; then
+    echo "skipped: $copy isn't built"
+    exit 0
+fi
+dir=$(mktemp -d) || exit 2
+trap 'rm -rf "$dir"' EXIT
+failed=0
+
+# expect STATUS LINE WORDS..: the number, what stands on standard error, and nothing on standard output.
+expect() {
+    local status=$1 line=$2
+    shift 2
+    "$copy" "$@" >"$dir/stdout" 2>"$dir/stderr"
+    local found=$?
+    if [ $found -ne "$status" ] || [ "$(cat "$dir/stderr")" != "$line" ] || [ -s "$dir/stdout" ]; then
+        echo "wasm_copy $*: status $found, not $status with: $line"
+        cat "$dir/stderr"
+        failed=1
+    fi
+}
+
+same() {
+    cmp "$1" "$2" || failed=1
+}
+
+# A module with one function type, with its size and counts in more bytes than they need, and in the fewest.
+printf '\0asm\1\0\0\0\1\207\0\201\0\140\200\200\0\0' >"$dir/long.wasm"
+printf '\0asm\1\0\0\0\1\4\1\140\0\0' >"$dir/short.wasm"
+printf '\0asm\2\0\0\0' >"$dir/version.wasm"
+head -c 33554433 /dev/zero >"$dir/big.wasm"
+
+expect 1 "usage: wasm_copy IN [OUT]"
+expect 1 "usage: wasm_copy IN [OUT]" "$dir/long.wasm" "$dir/out.wasm" more
+expect 1 "refused Header 4" "$dir/version.wasm"
+expect 1 "refused Header 4" "$dir/version.wasm" "$dir/out.wasm"
+expect 1 "too big $dir/big.wasm" "$dir/big.wasm" "$dir/out.wasm"
+if [ -e "$dir/out.wasm" ]; then
+    echo "a file was made for a module that was refused"
+    failed=1
+fi
+expect 0 "" "$dir/long.wasm"
+expect 0 "" "$dir/long.wasm" "$dir/out.wasm"
+same "$dir/out.wasm" "$dir/short.wasm"
+
+# The longest file that is taken, of many functions in the shortest spelling.
+if command -v python3 >/dev/null; then
+    python3 bench/large_module.py 33500000 "$dir/large.wasm"
+    expect 0 "" "$dir/large.wasm" "$dir/copy.wasm"
+    same "$dir/large.wasm" "$dir/copy.wasm"
+else
+    echo "skipped: no python3 makes the large module"
+fi
+exit $failed

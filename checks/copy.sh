@@ -39,10 +39,13 @@ expect 1 "usage: wasm_copy IN [OUT]" "$dir/long.wasm" "$dir/out.wasm" more
 expect 1 "refused Header 4" "$dir/version.wasm"
 expect 1 "refused Header 4" "$dir/version.wasm" "$dir/out.wasm"
 expect 1 "too big $dir/big.wasm" "$dir/big.wasm" "$dir/out.wasm"
+expect 1 "can't read $dir/none.wasm" "$dir/none.wasm" "$dir/out.wasm"
+expect 1 "can't read $dir" "$dir" "$dir/out.wasm"
 if [ -e "$dir/out.wasm" ]; then
     echo "a file was made for a module that was refused"
     failed=1
 fi
+expect 1 "can't write $dir/none/out.wasm" "$dir/long.wasm" "$dir/none/out.wasm"
 expect 0 "" "$dir/long.wasm"
 expect 0 "" "$dir/long.wasm" "$dir/out.wasm"
 same "$dir/out.wasm" "$dir/short.wasm"

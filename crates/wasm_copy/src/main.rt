@@ -7,15 +7,14 @@ mod round_trip;
 #[cfg(test)]
 mod tests;
 
+use cm_base::limits::MODULE_BYTES;
 use round_trip::shortened;
+use std::io::Read;
 use std::process::ExitCode;
 use std::rt::Files;
 use std::{env, fs, io};
 use wasm_reader::read_module;
 use wasm_tree::ModuleFail;
-
-/// The most bytes that are copied: those that `hezgrolk` takes of a module.
-const MOST: usize = 33_554_432;
 
 /// Says why a file isn't read as a module.
 fn refuse<R: AllocGlobal + Eprint>(rt: &R, fail: &ModuleFail) -> io::Result<u8> {
@@ -29,10 +28,21 @@ fn refuse<R: AllocGlobal + Eprint>(rt: &R, fail: &ModuleFail) -> io::Result<u8> 
     Ok(1)
 }
 
+/// The bytes of a file, or one more than a module may have where it has more.
+fn front<R: Files + AllocGlobal>(rt: &R, from: &str) -> io::Result<Vec<u8>> {
+    let mut bytes = Vec::new(rt.alloc());
+    let mut file = fs::open(rt, from)?.take(MODULE_BYTES + 1);
+    file.read_to_end(&mut bytes)?;
+    Ok(bytes)
+}
+
 /// Copies the file to the other, if there is one, and says what is wrong with it where it is no module.
 fn copy<R: Files + AllocGlobal + Eprint>(rt: &R, from: &str, to: Option<&str>) -> io::Result<u8> {
-    let bytes = fs::read(rt, from)?;
-    if bytes.len() > MOST {
+    let Ok(bytes) = front(rt, from) else {
+        eprintln!(rt; "can't read {from}")?;
+        return Ok(1);
+    };
+    if bytes.len() as u64 > MODULE_BYTES {
         eprintln!(rt; "too big {from}")?;
         return Ok(1);
     }
@@ -43,12 +53,18 @@ fn copy<R: Files + AllocGlobal + Eprint>(rt: &R, from: &str, to: Option<&str>) -
         };
     };
     match shortened(rt.alloc(), &bytes) {
-        Ok(short) => {
-            fs::write(rt, to, short.as_slice())?;
-            Ok(0)
-        }
+        Ok(short) => write(rt, to, short.as_slice()),
         Err(fail) => refuse(rt, &fail),
     }
+}
+
+/// Makes the bytes the whole file, and says where that can't be.
+fn write<R: Files + Eprint>(rt: &R, to: &str, bytes: &[u8]) -> io::Result<u8> {
+    if fs::write(rt, to, bytes).is_err() {
+        eprintln!(rt; "can't write {to}")?;
+        return Ok(1);
+    }
+    Ok(0)
 }
 
 fn main(rt: HostRuntime) -> io::Result<ExitCode> {

@@ -7,20 +7,9 @@ dir=$(mktemp -d) || exit 2
 trap 'rm -rf "$dir"' EXIT
 out=$dir/out.wasm
 failed=0
+program=./hezgrolk
 
-# expect STATUS LINE WORDS..: the number, the last line on standard error but for those about an unproved build
-# (of the script hezgrolk and of `rt try`), and nothing on standard output.
-expect() {
-    local status=$1 line=$2
-    shift 2
-    ./hezgrolk "$@" >"$dir/stdout" 2>"$dir/stderr"
-    local found=$?
-    if [ $found -ne "$status" ] || [ "$(grep -v -e '^hezgrolk: ' -e '^checked: ' -e '^run=' "$dir/stderr" | tail -n 1)" != "$line" ] || [ -s "$dir/stdout" ]; then
-        echo "hezgrolk $*: status $found, not $status with: $line"
-        cat "$dir/stderr"
-        failed=1
-    fi
-}
+. checks/expect.bash || exit 2
 
 # holds TEXT: what the output's file holds.
 holds() {

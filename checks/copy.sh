@@ -2,27 +2,16 @@
 # wasm_copy over real files, of which the contracts say nothing: its lines, its statuses, and what it writes.
 set -u
 cd "$(dirname "$0")/.." || exit 2
-copy=crates/wasm_copy/out/wasm_copy
-if [ ! -x "$copy" ]; then
-    echo "skipped: $copy isn't built"
+program=crates/wasm_copy/out/wasm_copy
+if [ ! -x "$program" ]; then
+    echo "skipped: $program isn't built"
     exit 0
 fi
 dir=$(mktemp -d) || exit 2
 trap 'rm -rf "$dir"' EXIT
 failed=0
 
-# expect STATUS LINE WORDS..: the number, what stands on standard error, and nothing on standard output.
-expect() {
-    local status=$1 line=$2
-    shift 2
-    "$copy" "$@" >"$dir/stdout" 2>"$dir/stderr"
-    local found=$?
-    if [ $found -ne "$status" ] || [ "$(cat "$dir/stderr")" != "$line" ] || [ -s "$dir/stdout" ]; then
-        echo "wasm_copy $*: status $found, not $status with: $line"
-        cat "$dir/stderr"
-        failed=1
-    fi
-}
+. checks/expect.bash || exit 2
 
 same() {
     cmp "$1" "$2" || failed=1

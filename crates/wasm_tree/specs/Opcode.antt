@@ -1,5 +1,5 @@
 -- The byte that begins each instruction: Core Specification 1.0, 5.4, "Instructions".
-use Rattle.std.specs.Prelude.{ℕ, ◌+◌}
+use Rattle.std.specs.Prelude.{ℕ, ◌+◌, nat_lt, if◌then◌else◌}
 use Rattle.wasm_tree.specs.declared.module.ValType.{ValType}
 use Rattle.wasm_tree.specs.declared.module.ValType.TheVariants.{I32, I64}
 use Rattle.wasm_tree.specs.declared.op.LoadOp.{LoadOp}
@@ -14,29 +14,40 @@ use Rattle.wasm_tree.specs.declared.op.BinaryOp.{BinaryOp}
 use Rattle.wasm_tree.specs.declared.op.BinaryOp.TheVariants as binary
 use Rattle.wasm_tree.specs.declared.op.ConvertOp.{ConvertOp}
 use Rattle.wasm_tree.specs.declared.op.ConvertOp.TheVariants as convert
+use Rattle.wasm_tree.specs.declared.instr.Instr.{Instr}
+use Rattle.wasm_tree.specs.declared.instr.Instr.TheVariants as instr
 
+-- the place among the loads in the order of their opcodes
+abbrev pub load_place : LoadOp → ℕ
+load_place load.I32 = 0
+load_place load.I64 = 1
+load_place load.I32Signed8 = 2
+load_place load.I32Unsigned8 = 3
+load_place load.I32Signed16 = 4
+load_place load.I32Unsigned16 = 5
+load_place load.I64Signed8 = 6
+load_place load.I64Unsigned8 = 7
+load_place load.I64Signed16 = 8
+load_place load.I64Unsigned16 = 9
+load_place load.I64Signed32 = 10
+load_place load.I64Unsigned32 = 11
+
+-- two loads of whole values, a gap for those of floats, and the narrow loads
 abbrev pub load_opcode : LoadOp → ℕ
-load_opcode load.I32 = 0x28
-load_opcode load.I64 = 0x29
-load_opcode load.I32Signed8 = 0x2C
-load_opcode load.I32Unsigned8 = 0x2D
-load_opcode load.I32Signed16 = 0x2E
-load_opcode load.I32Unsigned16 = 0x2F
-load_opcode load.I64Signed8 = 0x30
-load_opcode load.I64Unsigned8 = 0x31
-load_opcode load.I64Signed16 = 0x32
-load_opcode load.I64Unsigned16 = 0x33
-load_opcode load.I64Signed32 = 0x34
-load_opcode load.I64Unsigned32 = 0x35
+load_opcode op = if nat_lt (load_place op) 2 then 0x28 + load_place op else 0x2A + load_place op
+
+-- and so for the stores
+abbrev pub store_place : StoreOp → ℕ
+store_place store.I32 = 0
+store_place store.I64 = 1
+store_place store.I32Low8 = 2
+store_place store.I32Low16 = 3
+store_place store.I64Low8 = 4
+store_place store.I64Low16 = 5
+store_place store.I64Low32 = 6
 
 abbrev pub store_opcode : StoreOp → ℕ
-store_opcode store.I32 = 0x36
-store_opcode store.I64 = 0x37
-store_opcode store.I32Low8 = 0x3A
-store_opcode store.I32Low16 = 0x3B
-store_opcode store.I64Low8 = 0x3C
-store_opcode store.I64Low16 = 0x3D
-store_opcode store.I64Low32 = 0x3E
+store_opcode op = if nat_lt (store_place op) 2 then 0x36 + store_place op else 0x38 + store_place op
 
 abbrev pub test_opcode : ValType → ℕ
 test_opcode I32 = 0x45
@@ -95,3 +106,35 @@ abbrev pub convert_opcode : ConvertOp → ℕ
 convert_opcode convert.WrapI64 = 0xA7
 convert_opcode convert.ExtendI32Signed = 0xAC
 convert_opcode convert.ExtendI32Unsigned = 0xAD
+
+-- the byte with which the instruction begins
+abbrev pub opcode_of : Instr → ℕ
+opcode_of instr.Unreachable = 0x00
+opcode_of instr.Nop = 0x01
+opcode_of (instr.Block result) = 0x02
+opcode_of (instr.Loop result) = 0x03
+opcode_of (instr.If result) = 0x04
+opcode_of instr.Else = 0x05
+opcode_of instr.End = 0x0B
+opcode_of (instr.Br label) = 0x0C
+opcode_of (instr.BrIf label) = 0x0D
+opcode_of (instr.BrTable table) = 0x0E
+opcode_of instr.Return = 0x0F
+opcode_of (instr.Call function) = 0x10
+opcode_of instr.Drop = 0x1A
+opcode_of instr.Select = 0x1B
+opcode_of (instr.LocalGet local) = 0x20
+opcode_of (instr.LocalSet local) = 0x21
+opcode_of (instr.LocalTee local) = 0x22
+opcode_of (instr.GlobalGet global) = 0x23
+opcode_of (instr.GlobalSet global) = 0x24
+opcode_of (instr.Load op place) = load_opcode op
+opcode_of (instr.Store op place) = store_opcode op
+opcode_of instr.MemorySize = 0x3F
+opcode_of (instr.I32Const value) = 0x41
+opcode_of (instr.I64Const value) = 0x42
+opcode_of (instr.Test type) = test_opcode type
+opcode_of (instr.Compare type op) = compare_opcode type op
+opcode_of (instr.Unary type op) = unary_opcode type op
+opcode_of (instr.Binary type op) = binary_opcode type op
+opcode_of (instr.Convert op) = convert_opcode op

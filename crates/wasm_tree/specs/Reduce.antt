@@ -200,8 +200,8 @@ plain funcs next instr.Nop s st ls fs = To (at s st ls fs)
 plain funcs next (instr.Br label) s st ls fs = branch label st ls fs
 plain funcs next (instr.BrIf label) s st ls fs =
     on_top st.values (λ x xs. if x == 0 then To (at s (with_values st xs) ls fs) else branch label (with_values st xs) ls fs)
-plain funcs next (instr.BrTable labels other) s st ls fs =
-    on_top st.values (λ x xs. branch (unwrap_or (slice_get labels x) other) (with_values st xs) ls fs)
+plain funcs next (instr.BrTable table) s st ls fs =
+    on_top st.values (λ x xs. branch (unwrap_or (slice_get table.labels x) table.other) (with_values st xs) ls fs)
 plain funcs next instr.Return s st ls fs = give_back st fs
 plain funcs next (instr.Call function) s st ls fs = call funcs function s st ls fs
 plain funcs next instr.Drop s st ls fs = on_top st.values (λ x xs. To (at s (with_values st xs) ls fs))

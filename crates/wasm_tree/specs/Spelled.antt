@@ -1,7 +1,7 @@
 -- Which bytes spell a module: the binary format of Core Specification 1.0, chapter 5, for the subset of
 -- docs/MODULE.md. A relation by cases on the module's parts; bytes have no position.
 use Rattle.std.specs.Prelude.{ℕ, ◌≡◌, ◌+◌, ◌-◌, ◌*◌, ◌^◌, ◌<◌, ◌≤◌, ◌⊎◌, List, [], ◌∷◌, ◌++◌, length, sum_by, Contains, Option, Some, None, MatchOption, Bool, true, false, not, filter, codes, ℤ, pos, ◌+ℤ◌, ◌*ℤ◌, ◌==◌, if◌then◌else◌}
-use Rattle.std.specs.Str.{IsUtf8}
+use Rattle.std.specs.Str.{IsUtf8, bytes_eq}
 use Rattle.wasm_tree.specs.declared.module.ValType.{ValType}
 use Rattle.wasm_tree.specs.declared.module.ValType.TheVariants.{I32, I64}
 use Rattle.wasm_tree.specs.declared.module.FuncType.{FuncType}
@@ -21,7 +21,8 @@ use Rattle.wasm_tree.specs.declared.module.Module.{Module}
 use Rattle.wasm_tree.specs.declared.instr.MemArg.{MemArg}
 use Rattle.wasm_tree.specs.declared.instr.Instr.{Instr}
 use Rattle.wasm_tree.specs.declared.instr.Instr.TheVariants as instr
-use Rattle.wasm_tree.specs.Opcode.{load_opcode, store_opcode, test_opcode, compare_opcode, unary_opcode, binary_opcode, convert_opcode}
+use Rattle.wasm_tree.specs.Opcode.{opcode_of}
+use Rattle.wasm_tree.specs.Control.{IsClosed}
 
 -- ---- parts and sequences (5.1.1)
 
@@ -79,7 +80,8 @@ Vector P xs = Joined (Index (length xs)) (Each P xs)
 abbrev pub Text : List ℕ → List ℕ → Type 0
 Text text = Joined (Index (length text)) (Is text)
 
-pub record Name (name : List ℕ) (bytes : List ℕ) : Type 0 where
+-- a text that is UTF-8
+pub record Utf8Text (name : List ℕ) (bytes : List ℕ) : Type 0 where
   pub spelled : Text name bytes
   pub utf8 : IsUtf8 name
 
@@ -108,39 +110,32 @@ Memory limits = Bounds limits.min limits.max
 
 -- ---- instructions (5.4)
 
-abbrev pub Place : MemArg → List ℕ → Type 0
-Place place = Joined (Index place.align) (Index place.offset)
+abbrev pub MemoryArgument : MemArg → List ℕ → Type 0
+MemoryArgument place = Joined (Index place.align) (Index place.offset)
+
+-- what stands behind the instruction's opcode
+abbrev pub Immediates : Instr → List ℕ → Type 0
+Immediates (instr.Block result) = Is (result_byte result ∷ [])
+Immediates (instr.Loop result) = Is (result_byte result ∷ [])
+Immediates (instr.If result) = Is (result_byte result ∷ [])
+Immediates (instr.Br label) = Index label
+Immediates (instr.BrIf label) = Index label
+Immediates (instr.BrTable table) = Joined (Vector Index table.labels) (Index table.other)
+Immediates (instr.Call function) = Index function
+Immediates (instr.LocalGet local) = Index local
+Immediates (instr.LocalSet local) = Index local
+Immediates (instr.LocalTee local) = Index local
+Immediates (instr.GlobalGet global) = Index global
+Immediates (instr.GlobalSet global) = Index global
+Immediates (instr.Load op place) = MemoryArgument place
+Immediates (instr.Store op place) = MemoryArgument place
+Immediates instr.MemorySize = Is (0x00 ∷ [])
+Immediates (instr.I32Const value) = Signed 32 value
+Immediates (instr.I64Const value) = Signed 64 value
+Immediates _ = Is []
 
 abbrev pub Instruction : Instr → List ℕ → Type 0
-Instruction instr.Unreachable = Is (0x00 ∷ [])
-Instruction instr.Nop = Is (0x01 ∷ [])
-Instruction (instr.Block result) = Is (0x02 ∷ result_byte result ∷ [])
-Instruction (instr.Loop result) = Is (0x03 ∷ result_byte result ∷ [])
-Instruction (instr.If result) = Is (0x04 ∷ result_byte result ∷ [])
-Instruction instr.Else = Is (0x05 ∷ [])
-Instruction instr.End = Is (0x0B ∷ [])
-Instruction (instr.Br label) = Begins 0x0C (Index label)
-Instruction (instr.BrIf label) = Begins 0x0D (Index label)
-Instruction (instr.BrTable labels other) = Begins 0x0E (Joined (Vector Index labels) (Index other))
-Instruction instr.Return = Is (0x0F ∷ [])
-Instruction (instr.Call function) = Begins 0x10 (Index function)
-Instruction instr.Drop = Is (0x1A ∷ [])
-Instruction instr.Select = Is (0x1B ∷ [])
-Instruction (instr.LocalGet local) = Begins 0x20 (Index local)
-Instruction (instr.LocalSet local) = Begins 0x21 (Index local)
-Instruction (instr.LocalTee local) = Begins 0x22 (Index local)
-Instruction (instr.GlobalGet global) = Begins 0x23 (Index global)
-Instruction (instr.GlobalSet global) = Begins 0x24 (Index global)
-Instruction (instr.Load op place) = Begins (load_opcode op) (Place place)
-Instruction (instr.Store op place) = Begins (store_opcode op) (Place place)
-Instruction instr.MemorySize = Is (0x3F ∷ 0x00 ∷ [])
-Instruction (instr.I32Const value) = Begins 0x41 (Signed 32 value)
-Instruction (instr.I64Const value) = Begins 0x42 (Signed 64 value)
-Instruction (instr.Test type) = Is (test_opcode type ∷ [])
-Instruction (instr.Compare type op) = Is (compare_opcode type op ∷ [])
-Instruction (instr.Unary type op) = Is (unary_opcode type op ∷ [])
-Instruction (instr.Binary type op) = Is (binary_opcode type op ∷ [])
-Instruction (instr.Convert op) = Is (convert_opcode op ∷ [])
+Instruction i = Begins (opcode_of i) (Immediates i)
 
 -- a constant is the one instruction that a first value may be
 abbrev pub IsConstant : Instr → Type 0
@@ -148,28 +143,10 @@ IsConstant (instr.I32Const value) = Unit {0}
 IsConstant (instr.I64Const value) = Unit {0}
 IsConstant _ = ⊥
 
--- how deep sequences may stand inside one another; the function's own doesn't count (this project's own limit)
-abbrev pub most_open : ℕ
-most_open = 4096
-
--- The sequences that are open, innermost first, are ended one after another, and the function's own `End`
--- is the last instruction. A true stands for the first arm of an `if`, which an `else` may end.
-abbrev pub IsClosed : List Bool → List Instr → Type 0
-IsClosed arms [] = ⊥
-IsClosed [] (instr.End ∷ code) = code ≡ []
-IsClosed (arm ∷ arms) (instr.End ∷ code) = IsClosed arms code
-IsClosed [] (instr.Else ∷ code) = ⊥
-IsClosed (false ∷ arms) (instr.Else ∷ code) = ⊥
-IsClosed (true ∷ arms) (instr.Else ∷ code) = IsClosed (false ∷ arms) code
-IsClosed arms (instr.Block result ∷ code) = (length arms < most_open) × IsClosed (false ∷ arms) code
-IsClosed arms (instr.Loop result ∷ code) = (length arms < most_open) × IsClosed (false ∷ arms) code
-IsClosed arms (instr.If result ∷ code) = (length arms < most_open) × IsClosed (true ∷ arms) code
-IsClosed arms (_ ∷ code) = IsClosed arms code
-
 -- the code of a function: whole sequences, and its own `End`
 pub record Expression (code : List Instr) (bytes : List ℕ) : Type 0 where
   pub spelled : Each Instruction code bytes
-  pub closed : IsClosed [] code
+  pub closed : IsClosed code
 
 -- ---- modules (5.5)
 
@@ -178,14 +155,14 @@ Import_kind (imported.Function type) = Begins 0x00 (Index type)
 Import_kind (imported.Memory limits) = Begins 0x02 (Memory limits)
 
 abbrev pub Imported : Import → List ℕ → Type 0
-Imported import = Joined (Name import.«module») (Joined (Name import.name) (Import_kind import.kind))
+Imported import = Joined (Utf8Text import.«module») (Joined (Utf8Text import.name) (Import_kind import.kind))
 
 abbrev pub Export_kind : ExportKind → List ℕ → Type 0
 Export_kind (exported.Function function) = Begins 0x00 (Index function)
 Export_kind (exported.Memory memory) = Begins 0x02 (Index memory)
 
 abbrev pub Exported : ExportEntry → List ℕ → Type 0
-Exported entry = Joined (Name entry.name) (Export_kind entry.kind)
+Exported entry = Joined (Utf8Text entry.name) (Export_kind entry.kind)
 
 abbrev pub mutable_byte : Bool → ℕ
 mutable_byte false = 0x00
@@ -226,8 +203,8 @@ pub record Raw : Type 0 where
   pub id : ℕ
   pub contents : List ℕ
 
-abbrev pub Section : Raw → List ℕ → Type 0
-Section raw = Begins raw.id (Text raw.contents)
+abbrev pub RawSection : Raw → List ℕ → Type 0
+RawSection raw = Begins raw.id (Text raw.contents)
 
 -- the ids of the subset's sections other than custom ones: types, imports, functions, memories, globals,
 -- exports, codes and data
@@ -249,7 +226,7 @@ abbrev pub Lists : {A : Type 0} → (A → List ℕ → Type 0) → ℕ → List
 Lists P id raws xs = MatchOption (contents_of id raws) (xs ≡ []) (Vector P xs)
 
 abbrev pub Custom_contents : Custom → List ℕ → Type 0
-Custom_contents custom = Joined (Name custom.name) (Is custom.bytes)
+Custom_contents custom = Joined (Utf8Text custom.name) (Is custom.bytes)
 
 -- the custom sections, in order
 abbrev pub CustomsAre : List Raw → List Custom → Type 0
@@ -262,14 +239,12 @@ CustomsAre (raw ∷ raws) (custom ∷ customs) =
 abbrev pub cmajor : List ℕ
 cmajor = codes "cmajor"
 
-abbrev pub is_text : List ℕ → List ℕ → Bool
-is_text [] [] = true
-is_text (x ∷ xs) (y ∷ ys) = if x == y then is_text xs ys else false
-is_text _ _ = false
+abbrev pub is_cmajor : List ℕ → Bool
+is_cmajor name = bytes_eq name cmajor
 
 -- custom sections of other names first, then those named `cmajor`, each in their order
 abbrev pub sorted_customs : List Custom → List Custom
-sorted_customs customs = filter (λ custom. not (is_text custom.name cmajor)) customs ++ filter (λ custom. is_text custom.name cmajor) customs
+sorted_customs customs = filter (λ custom. not (is_cmajor custom.name)) customs ++ filter (λ custom. is_cmajor custom.name) customs
 
 -- 00 61 73 6D, and version 1
 abbrev pub header : List ℕ
@@ -278,7 +253,7 @@ header = 0x00 ∷ 0x61 ∷ 0x73 ∷ 0x6D ∷ 0x01 ∷ 0x00 ∷ 0x00 ∷ 0x00 ∷
 pub record Spelled (bytes : List ℕ) (m : Module) : Type 0 where
   pub raws : List Raw
   pub found : List Custom
-  pub whole : Joined (Is header) (Each Section raws) bytes
+  pub whole : Joined (Is header) (Each RawSection raws) bytes
   pub order : InOrder 0 raws
   pub types : Lists Type_of_function 1 raws m.types
   pub imports : Lists Imported 2 raws m.imports

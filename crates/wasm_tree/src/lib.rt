@@ -2,17 +2,24 @@
 //! in `specs/` the four definitions that the rest of the compiler rests on: which bytes spell a module
 //! (`Spelled`), when a module is valid (`Valid`), how instructions reduce (`Reduce`) and what a host's run
 //! of a module is (`HostRun`). The writer, the reader, the validator, the runner and the headline cite them.
+//! The functions of `laws` do nothing: their contracts state what follows from the definitions.
 #![tactic(auto)]
 
+mod control;
 mod failure;
+mod format;
 mod instr;
 mod interface;
+mod laws;
 mod module;
 mod op;
 
+pub use control::ControlStack;
 pub use failure::{ModuleFail, ModuleRefused, ModuleRule};
-pub use instr::{BlockType, Code, Instr, MemArg};
+pub use format::{CMAJOR, CUSTOM_ID, HEADER, Listed, is_cmajor};
+pub use instr::{BlockType, Code, Instr, LabelTable, MemArg};
 pub use interface::Interface;
+pub use laws::{broken_has_an_offset, broken_is_invalid, emit_is_function_0, section_is_unique};
 pub use module::{
     Custom, Customs, ExportEntry, ExportKind, Exports, FuncBodies, FuncBody, FuncType, FuncTypes,
     GlobalVar, Globals, Import, ImportKind, Imports, Indices, Limits, LocalRun, LocalRuns,

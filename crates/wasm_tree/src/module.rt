@@ -1,3 +1,7 @@
+ghost use Rattle.std.specs.Prelude.{◌≡◌, ◌≢◌, MatchOption};
+ghost use Rattle.wasm_tree.specs.declared.module.ValType.{ValType as TheType};
+ghost use Rattle.wasm_tree.specs.Spelled.{type_byte};
+
 use crate::instr::Instr;
 use cm_base::{Bytes, Items, Name};
 
@@ -6,6 +10,29 @@ use cm_base::{Bytes, Items, Name};
 pub enum ValType {
     I32,
     I64,
+}
+
+impl ValType {
+    /// The byte that stands for the type (Core Specification 1.0, 5.3.1).
+    pub fn byte(self) -> u8
+        ensures { result ≡ type_byte self }
+    {
+        match self {
+            ValType::I32 => 0x7F,
+            ValType::I64 => 0x7E,
+        }
+    }
+
+    /// The type that the byte stands for.
+    pub fn of_byte(byte: u8) -> Option<ValType>
+        ensures { MatchOption result ((ty : TheType) → type_byte ty ≢ byte) (λ ty. type_byte ty ≡ byte) }
+    {
+        match byte {
+            0x7F => Some(ValType::I32),
+            0x7E => Some(ValType::I64),
+            _ => None,
+        }
+    }
 }
 
 pub type ValTypes = Items<ValType>;

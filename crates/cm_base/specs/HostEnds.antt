@@ -1,5 +1,6 @@
 -- When a list of host endpoints can belong to a patch: docs/MODULE.md, "Endpoints".
-use Rattle.std.specs.Prelude.{ℕ, ◌≡◌, ◌≢◌, ◌<◌, ◌≤◌, ◌^◌, List, [], ◌∷◌, length, map, Option, Some, None, ◌≤ℤ◌}
+use Rattle.std.specs.Prelude.{ℕ, ◌≡◌, ◌≢◌, ◌<◌, ◌≤◌, ◌^◌, List, [], ◌∷◌, length, map, Option, Some, None, ◌≤ℤ◌, FitsSigned}
+use Rattle.std.specs.Int.{w32}
 use Rattle.std.specs.List.{AllByRecursion}
 use Rattle.cm_base.specs.declared.host.Scalar.{Scalar}
 use Rattle.cm_base.specs.declared.host.Scalar.TheVariants.{Int32, Int64, Bool, Wrap, Clamp}
@@ -27,11 +28,13 @@ CarriesParameter Stream = ⊥
 CarriesParameter Value = Unit {0}
 CarriesParameter Event = Unit {0}
 
--- a value or event input of one int32 may be a parameter, whose start is in its range
+-- a value or event input of one int32 may be a parameter: its three numbers are int32, and its start is in its range
 pub record IsParameter (end : HostEnd) (range : Range) : Type 0 where
   pub flow : end.flow ≡ Input
   pub kind : CarriesParameter end.kind
   pub shape : end.shape ≡ Int32 ∷ []
+  pub min_fits : FitsSigned w32 range.min
+  pub max_fits : FitsSigned w32 range.max
   pub above : range.min ≤ℤ range.init
   pub below : range.init ≤ℤ range.max
 

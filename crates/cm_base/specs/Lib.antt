@@ -1,3 +1,5 @@
 pub mod HostEnds
 pub mod Parts
+pub mod Players
 pub mod Scripts
+pub mod Tasks

@@ -1,6 +1,7 @@
--- The parts of a run, which a patch and its module have in common: docs/MODULE.md, "How a run goes".
--- A run is a list of tasks: values are set, and parts are begun, each with a budget of its own. What a part
--- does is up to the player, which is a patch with its bound or a module with its bound.
+-- The tasks of a run, which a patch and its module have in common: docs/MODULE.md, "How a run goes".
+-- A run is a list of tasks: values are set, and parts are begun, each with a budget of its own. `Players` says
+-- what comes of it. Here a part is a part of a run, a frame is the last part of a frame of the script, and an
+-- endpoint is given by its number among all endpoints of the host.
 use Rattle.std.specs.Prelude.{ℕ, zero, suc, ◌+◌, ◌*◌, ◌==◌, List, [], ◌∷◌, ◌++◌, length, take, drop, replicate, filter, map, Bool, true, false, ◌&&◌, if◌then◌else◌, Option, Some, None, unwrap_or, ℤ, pos}
 use Rattle.cm_base.specs.declared.host.Flow.{Flow}
 use Rattle.cm_base.specs.declared.host.Flow.TheVariants.{Input, Output}
@@ -8,7 +9,6 @@ use Rattle.cm_base.specs.declared.host.Kind.{Kind}
 use Rattle.cm_base.specs.declared.host.Kind.TheVariants as kinds
 use Rattle.cm_base.specs.declared.host.Range.{Range}
 use Rattle.cm_base.specs.declared.host.HostEnd.{HostEnd}
-use Rattle.cm_base.specs.declared.play.Item.{Item}
 use Rattle.cm_base.specs.declared.play.Saved.{Saved}
 use Rattle.cm_base.specs.declared.play.Setting.{Setting}
 use Rattle.cm_base.specs.declared.play.Script.{Script}
@@ -120,74 +120,37 @@ start_tasks [] number saved inputs = []
 start_tasks (end ∷ ends) number saved inputs =
     start_tasks_of end number end.parameter saved inputs ++ start_tasks ends (number + 1) saved inputs
 
--- ---- runs
+-- ---- whole runs
 
--- the inits, the starting values over streams that are 0, and so many frames
+-- the starting values over streams that are 0, and so many frames
+abbrev pub tasks_after_init : List HostEnd → List Saved → Script → ℕ → List Task
+tasks_after_init ends saved script frames = start_tasks ends 0 saved (inputs_at ends [] 0) ++ frames_from ends script 0 frames
+
+-- the inits come first
 abbrev pub tasks_of : List HostEnd → List Saved → Script → ℕ → List Task
-tasks_of ends saved script frames =
-    Begin Init ∷ (start_tasks ends 0 saved (inputs_at ends [] 0) ++ frames_from ends script 0 frames)
-
--- what a part leaves: a world to go on from, or the world in which the run ends because the part's budget
--- is spent or because it traps
-pub data Left (World : Type 0) : Type 0 where
-  Goes : (world : World) → Left World
-  Spent : (world : World) → Left World
-  Traps : (world : World) → Left World
-
--- What carries out tasks. `perform` is also given what the inputs carry in the frames that follow with
--- nothing between; `told` is the trace so far.
-pub record Player (World : Type 0) : Type 0 where
-  pub set : ℕ → List ℤ → World → World
-  pub perform : Part → List Inputs → World → Left World
-  pub told : World → List Item
-
-pub data Ending : Type 0 where
-  Ended : Ending
-  Out : (part : Part) → Ending
-  Trapped : (part : Part) → Ending
-
-pub record Outcome : Type 0 where
-  pub trace : List Item
-  pub ending : Ending
+tasks_of ends saved script frames = Begin Init ∷ tasks_after_init ends saved script frames
 
 -- the inputs of the frames that come next, with nothing set and no event between
 abbrev pub following : List Task → List Inputs
 following (Begin (Frame frame inputs) ∷ tasks) = inputs ∷ following tasks
 following _ = []
 
-abbrev pub settle : {World : Type 0} → (World → List Item) → Part → Left World → (World → Outcome) → Outcome
-settle told part (Goes world) go = go world
-settle told part (Spent world) go = record { trace = told world; ending = Out part }
-settle told part (Traps world) go = record { trace = told world; ending = Trapped part }
+-- ---- parts by number and by name
 
--- the tasks one after another, until a part doesn't end
-unfoldable pub play : {World : Type 0} → Player World → List Task → World → Outcome
-play player [] world = record { trace = player.told world; ending = Ended }
-play player (Set endpoint value ∷ tasks) world = play player tasks (player.set endpoint value world)
-play player (Begin part ∷ tasks) world = settle player.told part (player.perform part (following tasks) world) (play player tasks)
+-- the part of this number, counted from 0
+abbrev pub part_at : ℕ → List Task → Option Part
+part_at number [] = None
+part_at number (Set endpoint value ∷ tasks) = part_at number tasks
+part_at zero (Begin part ∷ tasks) = Some part
+part_at (suc number) (Begin part ∷ tasks) = part_at number tasks
 
--- ---- one part of a run
+-- what a status names of a run that stops early: the inits, or a frame (docs/COMMANDS.md, "Statuses")
+pub data At : Type 0 where
+  InInit : At
+  InFrame : (frame : ℕ) → At
 
--- how the part at a place of a run comes out; it isn't begun where one before it doesn't end
-pub data PartEnd : Type 0 where
-  NotBegun : PartEnd
-  PartEnds : PartEnd
-  PartSpent : PartEnd
-  PartTraps : PartEnd
-
-abbrev pub part_end : {World : Type 0} → Left World → PartEnd
-part_end (Goes world) = PartEnds
-part_end (Spent world) = PartSpent
-part_end (Traps world) = PartTraps
-
-abbrev pub when_ended : {World : Type 0} → Left World → (World → PartEnd) → PartEnd
-when_ended (Goes world) go = go world
-when_ended (Spent world) go = NotBegun
-when_ended (Traps world) go = NotBegun
-
--- the part at this place, counted from 0: `before` carries out what comes before it, and `player` the part itself
-unfoldable pub play_part : {World : Type 0} → Player World → Player World → ℕ → List Task → World → PartEnd
-play_part before player place [] world = NotBegun
-play_part before player place (Set endpoint value ∷ tasks) world = play_part before player place tasks (before.set endpoint value world)
-play_part before player zero (Begin part ∷ tasks) world = part_end (player.perform part (following tasks) world)
-play_part before player (suc place) (Begin part ∷ tasks) world = when_ended (before.perform part (following tasks) world) (play_part before player place tasks)
+-- a delivery belongs to its frame, and one of a starting value to frame 0
+abbrev pub at_of : Part → At
+at_of Init = InInit
+at_of (Send frame endpoint value inputs) = InFrame frame
+at_of (Frame frame inputs) = InFrame frame

@@ -86,15 +86,23 @@ AreFrom frame (setting ∷ settings) = (frame ≤ setting.frame) × AreFrom sett
 abbrev pub IsWithinEvents : List Setting → Type 0
 IsWithinEvents events = (frame : ℕ) → length (filter (λ event. event.frame == frame) events) ≤ 1024
 
--- a script for these endpoints
-pub record IsScript (ends : List HostEnd) (script : Script) : Type 0 where
-  pub frames : script.frames ≤ 1048576
+-- a script for these endpoints, of any length
+pub record IsScriptFor (ends : List HostEnd) (script : Script) : Type 0 where
   pub streams : AreStreams script.frames ends script.streams
   pub values : AllByRecursion (IsSetting kinds.Value script.frames ends) script.values
   pub values_rise : AreFrom 0 script.values
   pub events : AllByRecursion (IsSetting kinds.Event script.frames ends) script.events
   pub events_rise : AreFrom 0 script.events
-  pub few_events : IsWithinEvents script.events
+
+-- how long the script of a file may be
+pub record IsWithinLimits (script : Script) : Type 0 where
+  pub frames : script.frames ≤ 1048576
+  pub events : IsWithinEvents script.events
+
+-- a script that a file may hold for these endpoints
+pub record IsScript (ends : List HostEnd) (script : Script) : Type 0 where
+  pub belongs : IsScriptFor ends script
+  pub limits : IsWithinLimits script
 
 -- ---- saved parameters
 

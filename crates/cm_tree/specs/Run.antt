@@ -1,14 +1,14 @@
--- What a patch does over a whole run: docs/LANGUAGE.md, "Frames". The patch plays the tasks of a run
--- (`Parts`), each part with a budget of turns.
+-- What a patch does over a whole run: docs/LANGUAGE.md, "Frames". The patch is a player of the tasks of a run
+-- (`Parts` and `Players` of `cm_base`), each part with a budget of turns.
 use Rattle.std.specs.Prelude.{ℕ, zero, suc, ◌+◌, ◌==◌, ◌&&◌, List, [], ◌∷◌, ◌++◌, map, slice_get, slice_set, unwrap_or, Bool, true, false, not, if◌then◌else◌, Option, Some, None, ℤ}
 use Rattle.cm_base.specs.declared.host.Scalar.{Scalar}
 use Rattle.cm_base.specs.declared.host.HostEnd.{HostEnd}
 use Rattle.cm_base.specs.declared.play.Item.{Item}
 use Rattle.cm_base.specs.declared.play.Item.TheVariants as item
-use Rattle.cm_base.specs.declared.play.Saved.{Saved}
-use Rattle.cm_base.specs.declared.play.Script.{Script}
-use Rattle.cm_base.specs.Parts.{Inputs, Part, Init, Send, Frame, Left, Goes, Spent, Player, Outcome, PartEnd, play, play_part, tasks_of, is_input, is_stream}
+use Rattle.cm_base.specs.Parts.{Inputs, Part, Init, Send, Frame, is_input, is_stream}
+use Rattle.cm_base.specs.Players.{Left, Goes, Spent, Player, Source}
 use Rattle.cm_tree.specs.Patch.{Endpoint, Processor, Point, Chain, Patch}
+use Rattle.cm_tree.specs.Sizes.{cost}
 use Rattle.cm_tree.specs.Resume.{Do, Leaf, zeros, sum_of, at_number, After, Pauses, Out, resume, Goes as Returns}
 
 -- The state of a run: the leaves, the host's current values, for each chain the values of its source in the
@@ -135,11 +135,11 @@ patch_part patch turns (Send frame endpoint value inputs) world = Goes world
 patch_part patch turns (Frame frame inputs) world =
     act_in_order patch inputs 0 patch.leaves world turns (λ next. Goes (end_frame patch frame inputs next))
 
-abbrev pub patch_player : Patch → ℕ → Player World
-patch_player patch turns =
+abbrev pub patch_player : Patch → Player World
+patch_player patch =
     record {
       set = λ endpoint value world. record world { current = slice_set world.current endpoint value };
-      perform = λ part following world. patch_part patch turns part world;
+      perform = λ turns part following world. patch_part patch turns part world;
       told = λ world. world.trace;
     }
 
@@ -158,12 +158,6 @@ first_world patch =
       trace = [];
     }
 
--- the run of the patch over so many frames, with a budget of so many turns
-abbrev pub run : Patch → List Saved → Script → ℕ → ℕ → Outcome
-run patch saved script frames turns = play (patch_player patch turns) (tasks_of patch.host saved script frames) (first_world patch)
-
--- how the part at this place of the run comes out with a budget of so many turns, where each part before it had
--- the other
-abbrev pub run_part : Patch → List Saved → Script → ℕ → ℕ → ℕ → ℕ → PartEnd
-run_part patch saved script frames place turns before =
-    play_part (patch_player patch before) (patch_player patch turns) place (tasks_of patch.host saved script frames) (first_world patch)
+-- the patch as what a module is compiled from
+abbrev pub patch_source : Patch → Source World
+patch_source patch = record { ends = patch.host; latency = patch.latency; cost = cost patch; player = patch_player patch; first = first_world patch }

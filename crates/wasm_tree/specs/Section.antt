@@ -1,5 +1,5 @@
 -- The custom section `cmajor`, which tells a host of the endpoints: docs/MODULE.md, "The section".
-use Rattle.std.specs.Prelude.{ℕ, ◌≡◌, ◌+◌, ◌*◌, ◌≤◌, List, [], ◌∷◌, length, map, replicate, sum_by, filter, Option, Some, None, if◌then◌else◌}
+use Rattle.std.specs.Prelude.{ℕ, ◌≡◌, ◌+◌, ◌*◌, ◌<◌, ◌≤◌, List, [], ◌∷◌, length, map, replicate, sum_by, filter, Option, Some, None, if◌then◌else◌}
 use Rattle.std.specs.List.{AllByRecursion, flat_map}
 use Rattle.cm_base.specs.declared.host.Flow.{Flow}
 use Rattle.cm_base.specs.declared.host.Flow.TheVariants.{Input, Output}
@@ -15,7 +15,7 @@ use Rattle.wasm_tree.specs.declared.interface.Interface.{Interface}
 use Rattle.wasm_tree.specs.declared.interface.Interface.TheVariants.{Single, Blocks}
 use Rattle.wasm_tree.specs.declared.module.Module.{Module}
 use Rattle.wasm_tree.specs.declared.module.Custom.{Custom}
-use Rattle.wasm_tree.specs.Spelled.{Joined, Is, Begins, Index, Signed, Vector, Name, cmajor, is_text}
+use Rattle.wasm_tree.specs.Spelled.{Joined, Is, Begins, Index, Signed, Vector, Utf8Text, is_cmajor}
 
 -- an endpoint and the address of its slot
 pub record Slot : Type 0 where
@@ -82,7 +82,7 @@ Parameter (Some range) = Begins 1 (Joined (Signed 32 range.min) (Joined (Signed 
 abbrev pub Spelled_slot : Slot → List ℕ → Type 0
 Spelled_slot slot =
     Begins (flow_byte slot.end.flow) (Begins (kind_byte slot.end.kind)
-    (Joined (Name slot.end.name) (Joined (Index slot.address) (Joined (Runs slot.end.shape) (Parameter slot.end.parameter)))))
+    (Joined (Utf8Text slot.end.name) (Joined (Index slot.address) (Joined (Runs slot.end.shape) (Parameter slot.end.parameter)))))
 
 -- the interface and the latency
 abbrev pub Spelled_interface : Interface → ℕ → List ℕ → Type 0
@@ -115,14 +115,18 @@ entries section end = if is_stream end.kind then block_length section.interface 
 abbrev pub slot_size : Section → HostEnd → ℕ
 slot_size section end = entries section end * shape_size end.shape
 
+-- a slot lies in so many bytes; one without scalars has nothing that must
+abbrev pub IsWithin : ℕ → Section → Slot → Type 0
+IsWithin bytes section slot = 0 < slot_size section slot.end → slot.address + slot_size section slot.end ≤ bytes
+
 -- the slots lie in the memory's minimum size
 abbrev pub AreWithin : ℕ → Section → Type 0
-AreWithin bytes section = AllByRecursion (λ slot. slot.address + slot_size section slot.end ≤ bytes) section.slots
+AreWithin bytes section = AllByRecursion (IsWithin bytes section) section.slots
 
 -- ---- the section of a module
 
 abbrev pub named_cmajor : List Custom → List Custom
-named_cmajor customs = filter (λ custom. is_text custom.name cmajor) customs
+named_cmajor customs = filter (λ custom. is_cmajor custom.name) customs
 
 -- the module has just one such section, and it says this
 pub record IsSection (m : Module) (section : Section) : Type 0 where

@@ -2,6 +2,7 @@
 use Rattle.std.proofs.Common.{◌≡◌, inl, inr, ℕ, zero, suc, ◌+◌, ◌<◌, List, [], ◌∷◌, ◌++◌, length, take, refl, ap, arith, Option, true, false, eqb, cond, unwrap_or}
 use Rattle.std.specs.Prelude.{slice_get}
 use Rattle.wasm_tree.specs.declared.module.ValType.{ValType}
+use Rattle.wasm_tree.specs.declared.instr.LabelTable.{LabelTable}
 use Rattle.wasm_tree.specs.declared.instr.Instr.TheVariants as instr
 use Rattle.wasm_tree.specs.Reduce.{Seq, Nil, Plain, InBlock, InLoop, InIf, Func, State, Label, Frame, Step, To, at, with_values, push, enter, arity_of, branch, plain, act}
 use Rattle.wasm_steps.specs.Steps.{Emission, Leads, Place, start, quiet, branching, returning, Does, Meets, inside, block_label, loop_label, in_block_of, in_loop_of, Enters}
@@ -30,11 +31,11 @@ unfolding act plain
 br_if_passed st depth x e = record { here = λ p. one (ap (λ b. cond b (To (at p.rest st p.labels p.frames)) (branch depth st p.labels p.frames)) e) }
 
 -- a branch by a table
-pub br_table : {funcs : List Func} (st : State) (labels : List ℕ) (other x depth : ℕ) → unwrap_or (slice_get labels x) other ≡ depth →
-    Meets funcs (Plain (instr.BrTable labels other) Nil) 0 quiet (push x st) (branching depth st)
+pub br_table : {funcs : List Func} (st : State) (table : LabelTable) (x depth : ℕ) → unwrap_or (slice_get table.labels x) table.other ≡ depth →
+    Meets funcs (Plain (instr.BrTable table) Nil) 0 quiet (push x st) (branching depth st)
 unfolding act plain
-br_table st labels other x depth e = record {
-  last = start (Plain (instr.BrTable labels other) Nil) (push x st);
+br_table st table x depth e = record {
+  last = start (Plain (instr.BrTable table) Nil) (push x st);
   leads = λ p. stay _;
   reduces = λ p. ap (λ n. branch n st p.labels p.frames) e;
 }

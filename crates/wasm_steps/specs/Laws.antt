@@ -5,6 +5,7 @@ use mir.Val.{bits}
 use Rattle.wasm_tree.specs.declared.module.ValType.{ValType}
 use Rattle.wasm_tree.specs.declared.op.LoadOp.{LoadOp}
 use Rattle.wasm_tree.specs.declared.op.StoreOp.{StoreOp}
+use Rattle.wasm_tree.specs.declared.instr.LabelTable.{LabelTable}
 use Rattle.wasm_tree.specs.declared.instr.Instr.TheVariants as instr
 use Rattle.wasm_tree.specs.Meaning.{loaded, load_size, load_width, extended, stored, store_size, store_width}
 use Rattle.wasm_tree.specs.Reduce.{Seq, Nil, Plain, InBlock, InLoop, InIf, Func, State, Label, Frame, Config, Step, Done, Trapped, Out, at, with_values, push, arity_of, write_bytes, exec}
@@ -73,10 +74,10 @@ HostCalls cost = (funcs : List Func) (st : State) (x : ℕ) → Does funcs (Plai
 
 -- a local selects what follows nested blocks
 abbrev pub Dispatches : (extra : ℕ) → Type 0
-Dispatches extra = (funcs : List Func) (front : List Seq) (code : Seq) (back : List Seq) (table : List ℕ) (other local x : ℕ) (st : State) (labels : List Label) (frames : List Frame) →
-    slice_get st.locals local ≡ Some x → unwrap_or (slice_get table x) other ≡ length front →
+Dispatches extra = (funcs : List Func) (front : List Seq) (code : Seq) (back : List Seq) (table : LabelTable) (local x : ℕ) (st : State) (labels : List Label) (frames : List Frame) →
+    slice_get st.locals local ≡ Some x → unwrap_or (slice_get table.labels x) table.other ≡ length front →
     Leads funcs (length (front ++ code ∷ back) + extra) []
-    (at (nest (front ++ code ∷ back) (Plain (instr.LocalGet local) (Plain (instr.BrTable table other) Nil))) (with_values st []) labels frames)
+    (at (nest (front ++ code ∷ back) (Plain (instr.LocalGet local) (Plain (instr.BrTable table) Nil))) (with_values st []) labels frames)
     (at code (with_values st []) (within back labels) frames)
 
 -- ---- budgets

@@ -1,0 +1,14 @@
+pub mod BlockRuns
+pub mod Blocks
+pub mod Calls
+pub mod Current
+pub mod Fronts
+pub mod Growth
+pub mod Heard
+pub mod Joined
+pub mod Moved
+pub mod Over
+pub mod Relations
+pub mod Runs
+pub mod Singles
+pub mod Stopped

@@ -1,9 +1,11 @@
 -- Instructions and modules as bytes.
-use Rattle.std.proofs.Common.{ℕ, suc, ◌<◌, ◌≤◌, List, [], ◌∷◌, ◌++◌, length, ◌≡◌, Bool, false, None, refl, inl, inr, true, arith, lit<, lit≤}
+use Rattle.std.proofs.Common.{ℕ, ◌≤◌, List, [], ◌∷◌, ◌++◌, length, ◌≡◌, Bool, false, None, ap, refl, inl, inr, arith, lit<, lit≤}
+use Rattle.std.specs.Prelude.{Some, nat_le, if◌then◌else◌}
 use Rattle.wasm_tree.specs.declared.instr.Instr.{Instr}
 use Rattle.wasm_tree.specs.declared.instr.Instr.TheVariants as instr
 use Rattle.wasm_tree.specs.declared.op.LoadOp.TheVariants as load
-use Rattle.wasm_tree.specs.Spelled.{Joined, Begins, Instruction, IsClosed, Body, Spelled, header}
+use Rattle.wasm_tree.specs.Control.{after_instruction, most_open, IsClosed}
+use Rattle.wasm_tree.specs.Spelled.{Joined, Begins, Instruction, Body, Spelled, header}
 use Rattle.wasm_tree.specs.declared.module.Module.{Module}
 use Rattle.wasm_examples.specs.Bytes.{nested_code, stray_else, second_else, empty_module, type_module, type_bytes, version_two, next_body, body_with}
 
@@ -33,38 +35,32 @@ body_spelled = (
         spelled =
             joined (0x20 ∷ 0x00 ∷ []) (0x41 ∷ 0x01 ∷ 0x6A ∷ 0x0B ∷ []) (begins 0x20 (0x00 ∷ []) (lit< tt, lit< tt, refl))
             (joined (0x41 ∷ 0x01 ∷ []) (0x6A ∷ 0x0B ∷ []) (begins 0x41 (0x01 ∷ []) (inl (lit< tt, lit< tt, refl)))
-            (joined (0x6A ∷ []) (0x0B ∷ []) refl (joined (0x0B ∷ []) [] refl refl)));
+            (joined (0x6A ∷ []) (0x0B ∷ []) (begins 0x6A [] refl) (joined (0x0B ∷ []) [] (begins 0x0B [] refl) refl)));
         closed = refl;
       }),
 )
 
 -- each sequence is ended, and the function's own end comes last
-pub nested_closed : IsClosed [] nested_code
-nested_closed = (lit< tt, (lit< tt, refl))
+pub nested_closed : IsClosed nested_code
+nested_closed = refl
 
 -- a block has no second arm
-pub stray_open : IsClosed [] stray_else → ⊥
-stray_open h = h.1
+pub stray_open : IsClosed stray_else → ⊥
+stray_open h = cc
 
 -- an `if` has no third arm
-pub second_open : IsClosed [] second_else → ⊥
-second_open h = h.1
+pub second_open : IsClosed second_else → ⊥
+second_open h = cc
 
--- the 4,096th sequence is opened
-pub deep_closed : (arms : List Bool) (code : List Instr) → length arms ≡ 4095 → IsClosed (false ∷ arms) code → IsClosed arms (instr.Loop None ∷ code)
-deep_closed [] code e h = absurd (omega arith)
-deep_closed (false ∷ arms) code e h = (omega arith, h)
-deep_closed (true ∷ arms) code e h = (omega arith, h)
+-- the 4,096th sequence besides the function's own is opened
+pub deep_opened : (arms : List Bool) → length arms ≡ 4096 → after_instruction arms (instr.Loop None) ≡ Some (false ∷ arms)
+deep_opened [] e = absurd (omega arith)
+deep_opened (arm ∷ arms) e = ap (λ (n : ℕ). if nat_le n most_open then Some (false ∷ arm ∷ arms) else None) e
 
 -- and no further one inside it
-pub too_deep_open : (arms : List Bool) (code : List Instr) → length arms ≡ 4096 → IsClosed arms (instr.Loop None ∷ code) → ⊥
-too_deep_open [] code e h = omega arith
-too_deep_open (false ∷ arms) code e h =
-    let less : suc (length arms) < 4096 = h.0 in
-    omega arith
-too_deep_open (true ∷ arms) code e h =
-    let less : suc (length arms) < 4096 = h.0 in
-    omega arith
+pub too_deep_refused : (arms : List Bool) → length arms ≡ 4097 → after_instruction arms (instr.Loop None) ≡ None
+too_deep_refused [] e = absurd (omega arith)
+too_deep_refused (arm ∷ arms) e = ap (λ (n : ℕ). if nat_le n most_open then Some (false ∷ arm ∷ arms) else None) e
 
 -- 65,536 locals and one more
 pub no_body : (code : List Instr) (bytes : List ℕ) → Body (body_with 65536 1 code) bytes → ⊥

@@ -5,3 +5,5 @@ pub mod Operators
 pub mod Types
 pub mod Hosts
 pub mod Modules
+pub mod Stops
+pub mod Rules

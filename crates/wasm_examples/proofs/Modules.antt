@@ -1,19 +1,28 @@
 -- The module that adds an event's number to a sum is valid.
-use Rattle.std.proofs.Common.{◌≡◌, ℕ, zero, suc, List, [], ◌∷◌, get_or, ap, refl, arith, lit≤, lit<}
-use Rattle.std.specs.Prelude.{Contains, codes, pos}
+use Rattle.std.proofs.Common.{◌≡◌, ℕ, zero, suc, ◌≤◌, List, [], ◌∷◌, length, get_or, ap, subst, refl, arith, lit≤, lit<}
+use Rattle.std.specs.Prelude.{Contains, Some, slice_get, codes, pos}
+use Rattle.std.specs.List.{AllByRecursion}
+use Rattle.std.proofs.lemmas.Option.{slice_get_within, get_or_from_slice_get}
+use Rattle.std.proofs.lemmas.List.Elements.{All-from_recursion}
 use Rattle.std.specs.Fmt.{digits}
 use Rattle.cm_base.specs.HostEnds.{IsLawful, AreDistinct}
 use Rattle.cm_base.specs.declared.host.Flow.TheVariants.{Input, Output}
 use Rattle.cm_base.specs.declared.host.Kind.TheVariants.{Stream, Event}
 use Rattle.cm_base.specs.declared.host.Scalar.TheVariants.{Int32}
 use Rattle.wasm_tree.specs.declared.module.ValType.TheVariants.{I32}
+use Rattle.wasm_tree.specs.declared.module.FuncType.{FuncType}
+use Rattle.wasm_tree.specs.declared.module.FuncBody.{FuncBody}
+use Rattle.wasm_tree.specs.declared.module.Module.{Module}
+use Rattle.wasm_tree.specs.declared.instr.Instr.{Instr}
 use Rattle.wasm_tree.specs.declared.instr.Instr.TheVariants as instr
 use Rattle.wasm_tree.specs.declared.op.BinaryOp.TheVariants as binary
 use Rattle.wasm_tree.specs.declared.op.LoadOp.TheVariants as load
 use Rattle.wasm_tree.specs.declared.op.StoreOp.TheVariants as store
 use Rattle.wasm_tree.specs.Reduce.{Seq, Nil, Plain, pieces}
 use Rattle.wasm_tree.specs.Section.{Spelled_section, Spelled_slot, Runs, IsSection, ends_of}
-use Rattle.wasm_tree.specs.Valid.{Valid, IsBody, Calls, HasNoCallCycle, HasImport, HasMemory, HasExports, IsExported, no_type}
+use Rattle.wasm_tree.specs.Control.{IsClosed}
+use Rattle.wasm_tree.specs.Host.{HasImport, HasExports, IsExported}
+use Rattle.wasm_tree.specs.Valid.{Valid, Index, IsIndexed, IsThere, counts, IsWithinLimits, IsBody, Calls, CallCycle, HasMemory, no_type}
 use Rattle.wasm_examples.specs.Hosts.{event_module, pageless_module, add_event, body_of, slot_of, three_slots, three_slots_bytes, word_at, one_page, emit_import}
 use Rattle.wasm_examples.proofs.Instructions.{joined, begins}
 
@@ -21,7 +30,7 @@ use Rattle.wasm_examples.proofs.Instructions.{joined, begins}
 
 empty_body : IsBody (event_module add_event) no_type (body_of (instr.End ∷ []))
 unfolding pieces
-empty_body = record { tree = Nil; spells = refl; typed = refl; few_locals = lit≤ tt; flat = lit≤ tt }
+empty_body = record { tree = Nil; spells = refl; typed = refl; closed = refl }
 
 add_tree : Seq
 add_tree =
@@ -58,9 +67,24 @@ add_body = record {
       ),
     ),
   );
-  few_locals = lit≤ tt;
-  flat = lit≤ tt;
+  closed = refl;
 }
+
+-- what holds of each instruction holds of the one at a place
+pub instruction_at : (P : Instr → Type 0) (code : List Instr) (place : ℕ) (i : Instr) → AllByRecursion P code → slice_get code place ≡ Some i → P i
+instruction_at P code place i all e = subst P (get_or_from_slice_get code place i i e) (All-from_recursion P code all place i (slice_get_within code place i e))
+
+-- code that names what is there wherever it stands
+pub all_there : (m : Module) (type : FuncType) (body : FuncBody) → AllByRecursion (λ i. (labels : ℕ) → IsThere (counts m type body labels) i) body.code → IsIndexed m type body
+all_there m type body all place i arms e opens = instruction_at (λ i. (labels : ℕ) → IsThere (counts m type body labels) i) body.code place i all e (length arms)
+
+empty_there : IsIndexed (event_module add_event) no_type (body_of (instr.End ∷ []))
+empty_there = all_there (event_module add_event) no_type (body_of (instr.End ∷ [])) ((λ labels. tt), tt)
+
+add_there : IsIndexed (event_module add_event) no_type (body_of add_event)
+add_there =
+    all_there (event_module add_event) no_type (body_of add_event)
+    ((λ n. tt), ((λ n. tt), ((λ n. lit< tt), ((λ n. tt), ((λ n. lit< tt), ((λ n. tt), ((λ n. lit< tt), ((λ n. tt), tt))))))))
 
 -- ---- no calls
 
@@ -86,7 +110,7 @@ no_calls (suc (suc zero)) g c = not_in_end g c
 no_calls (suc (suc (suc zero))) g c = not_in_add g c
 no_calls (suc (suc (suc (suc n)))) g c = omega (arith, c.1)
 
-no_cycle : HasNoCallCycle (event_module add_event)
+no_cycle : CallCycle (event_module add_event)
 no_cycle f [] c = no_calls f f c
 no_cycle f (h ∷ hs) c = no_calls f h c.0
 
@@ -183,22 +207,30 @@ is_section = record {
 
 -- ---- the module
 
--- each part of the module is as it must be
+add_index : Index (event_module add_event)
+add_index = record {
+  imports = (lit< tt, tt);
+  functions = (lit< tt, (lit< tt, (lit< tt, tt)));
+  exports = (lit< tt, (lit< tt, (lit< tt, (lit< tt, tt))));
+  bodies = (empty_there, (empty_there, (add_there, refl)));
+  segments = tt;
+}
+
+few_locals : (code : List Instr) → IsClosed code → IsWithinLimits (body_of code)
+few_locals code closed = record { locals = lit≤ tt; nesting = closed }
+
+-- each rule is kept
 pub add_valid : Valid (event_module add_event) three_slots
 add_valid = record {
-  types = (lit≤ tt, (lit≤ tt, tt));
-  imports = has_import;
-  functions = (lit< tt, (lit< tt, (lit< tt, tt)));
-  memory = has_memory;
-  globals = tt;
-  exports = has_exports;
-  bodies = (empty_body, (empty_body, (add_body, refl)));
-  calls = no_cycle;
-  segments = tt;
-  described = is_section;
-  slots = (lit≤ tt, (lit≤ tt, (lit≤ tt, tt)));
+  index = add_index;
+  limit = record { memory = has_memory; bodies = (few_locals _ refl, (few_locals _ refl, (few_locals _ refl, tt))) };
+  typing = record { types = (lit≤ tt, (lit≤ tt, tt)); globals = tt; bodies = (empty_body, (empty_body, (add_body, refl))) };
+  call_cycle = no_cycle;
+  segment = tt;
+  interface = record { imports = has_import; exports = has_exports };
+  cmajor = record { described = is_section; slots = ((λ some. lit≤ tt), ((λ some. lit≤ tt), ((λ some. lit≤ tt), tt))) };
 }
 
 -- the slots do not fit a memory of no page
 pub no_room : Valid pageless_module three_slots → ⊥
-no_room v = omega (arith, v.slots.0)
+no_room v = let first : 4 ≤ 0 = v.cmajor.slots.0 (lit< tt) in omega (arith, first)

@@ -3,7 +3,7 @@ use Rattle.std.proofs.Common.{List, [], ◌∷◌, refl}
 use Rattle.wasm_tree.specs.declared.module.ValType.{ValType}
 use Rattle.wasm_tree.specs.declared.module.ValType.TheVariants.{I32}
 use Rattle.wasm_tree.specs.Reduce.{pieces}
-use Rattle.wasm_tree.specs.Valid.{Takes}
+use Rattle.wasm_tree.specs.Typed.{Takes}
 use Rattle.wasm_examples.specs.Types.{HasType, sum_code, choice_code, add_code}
 
 -- one number, two, their sum, none

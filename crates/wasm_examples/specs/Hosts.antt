@@ -7,7 +7,7 @@ use Rattle.cm_base.specs.declared.host.Kind.{Kind}
 use Rattle.cm_base.specs.declared.host.Kind.TheVariants.{Stream, Value, Event}
 use Rattle.cm_base.specs.declared.play.Saved.{Saved}
 use Rattle.cm_base.specs.declared.play.Script.{Script}
-use Rattle.cm_base.specs.Parts.{Outcome, PartEnd}
+use Rattle.cm_base.specs.Players.{Outcome, PartEnd}
 use Rattle.wasm_tree.specs.declared.module.ValType.TheVariants.{I32}
 use Rattle.wasm_tree.specs.declared.module.Limits.{Limits}
 use Rattle.wasm_tree.specs.declared.module.Import.{Import}
@@ -113,8 +113,8 @@ abbrev pub run_of_event : List Instr → ℤ → ℕ → Outcome
 run_of_event code value steps = host_run (event_module code) three_slots [] (event_script value) 2 steps
 
 -- how one part of it comes out: `init`, frame 0, the event and frame 1 are the parts 0 to 3
-abbrev pub part_of_event : List Instr → ℤ → ℕ → ℕ → PartEnd
-part_of_event code value place steps = host_part (event_module code) three_slots [] (event_script value) 2 place steps
+abbrev pub part_of_event : List Instr → ℤ → (steps number : ℕ) → PartEnd
+part_of_event code value steps number = host_part (event_module code) three_slots [] (event_script value) 2 steps number
 
 -- ---- blocks
 

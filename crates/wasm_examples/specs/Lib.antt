@@ -1,4 +1,6 @@
 pub mod Bytes
-pub mod Runs
-pub mod Types
 pub mod Hosts
+pub mod Rules
+pub mod Runs
+pub mod Stops
+pub mod Types

@@ -7,7 +7,7 @@ use Rattle.wasm_tree.specs.declared.op.BinaryOp.{BinaryOp}
 use Rattle.wasm_tree.specs.declared.op.BinaryOp.TheVariants as binary
 use Rattle.wasm_tree.specs.declared.op.LoadOp.TheVariants as load
 use Rattle.wasm_tree.specs.declared.op.StoreOp.TheVariants as store
-use Rattle.wasm_tree.specs.Reduce.{Func, Run, Done, Out, at, exec, tree_of}
+use Rattle.wasm_tree.specs.Reduce.{Nil, Plain, Func, Config, Run, Done, Out, at, exec, tree_of}
 
 -- a call of code that starts with these locals, globals and bytes of memory, with at most so many reductions
 abbrev pub run_of : List Func → List Instr → List ℕ → List ℕ → List ℕ → ℕ → Run
@@ -46,8 +46,17 @@ call_code = instr.I32Const (pos 41) ∷ instr.Call 1 ∷ instr.GlobalSet 0 ∷ i
 -- number out of the outer one
 abbrev pub table_code : ℤ → List Instr
 table_code value =
-    instr.Block None ∷ instr.Block None ∷ instr.I32Const value ∷ instr.BrTable (0 ∷ []) 1 ∷ instr.End
+    instr.Block None ∷ instr.Block None ∷ instr.I32Const value ∷ instr.BrTable (record { labels = 0 ∷ []; other = 1 }) ∷ instr.End
     ∷ instr.I32Const (pos 9) ∷ instr.GlobalSet 0 ∷ instr.End ∷ instr.End ∷ []
+
+-- a function with two locals whose two operands stand one below a block and one in it, before two constants and
+-- their sum, which a caller with one local, one operand and one below a block waits for
+abbrev pub nested_run : Config
+nested_run =
+    at (Plain (instr.I32Const (pos 1)) (Plain (instr.I64Const (pos 2)) (Plain (instr.Binary I32 binary.Add) Nil)))
+    (record { values = 7 ∷ []; locals = 8 ∷ 9 ∷ []; globals = 10 ∷ []; memory = 11 ∷ [] })
+    (record { arity = 0; target = Nil; below = 12 ∷ []; rest = Plain (instr.I32Const (pos 3)) Nil } ∷ [])
+    (record { arity = 0; rest = Plain (instr.I32Const (pos 4)) Nil; values = 13 ∷ []; locals = 14 ∷ []; labels = record { arity = 0; target = Nil; below = 15 ∷ []; rest = Nil } ∷ [] } ∷ [])
 
 -- ---- operators and memory
 

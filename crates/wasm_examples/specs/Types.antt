@@ -6,7 +6,7 @@ use Rattle.wasm_tree.specs.declared.instr.Instr.{Instr}
 use Rattle.wasm_tree.specs.declared.instr.Instr.TheVariants as instr
 use Rattle.wasm_tree.specs.declared.op.BinaryOp.TheVariants as binary
 use Rattle.wasm_tree.specs.Reduce.{tree_of}
-use Rattle.wasm_tree.specs.Valid.{Context, Typed}
+use Rattle.wasm_tree.specs.Typed.{Context, Typed}
 
 -- a function with no locals, globals or results
 abbrev pub bare : Context

@@ -1,9 +1,10 @@
-pub mod Modulus
-pub mod Conversions
-pub mod Ranges
-pub mod Divisions
-pub mod Shifts
-pub mod Opcodes
-pub mod Results
+pub mod Public
+mod Modulus
+mod Conversions
+mod Ranges
+mod Divisions
+mod Shifts
+mod Opcodes
+mod Results
 mod Calls
 mod Rows

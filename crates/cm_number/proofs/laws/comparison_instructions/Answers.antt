@@ -1,4 +1,4 @@
-use Rattle.cm_number.proofs.Opcodes.{eq_is, lt_s_is, le_s_is, gt_s_is, ge_s_is, eqz_is}
+use Rattle.cm_number.proofs.Public.{eq_is, lt_s_is, le_s_is, gt_s_is, ge_s_is, eqz_is}
 use Rattle.cm_number.proofs.laws.comparison_instructions.Goals as goal
 
 pub returns-clause-eq : goal.returns-clause-eq

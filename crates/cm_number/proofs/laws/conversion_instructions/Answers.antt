@@ -1,4 +1,4 @@
-use Rattle.cm_number.proofs.Opcodes.{wrap_i64_is, extend_i32_s_is, extend_i32_u_is, to_wrap_is, nearest_is}
+use Rattle.cm_number.proofs.Public.{wrap_i64_is, extend_i32_s_is, extend_i32_u_is, to_wrap_is, nearest_is}
 use Rattle.cm_number.proofs.laws.conversion_instructions.Goals as goal
 
 pub returns-clause-wrap_i64 : goal.returns-clause-wrap_i64

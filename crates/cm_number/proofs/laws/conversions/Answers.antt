@@ -1,6 +1,4 @@
-use Rattle.cm_number.proofs.Conversions.{to_signed_only, to_unsigned_only}
-use Rattle.cm_number.proofs.Modulus.{floor_modulus_only, to_wrap_only}
-use Rattle.cm_number.proofs.Ranges.{nearest_only, to_clamp_only, to_bool_only}
+use Rattle.cm_number.proofs.Public.{to_signed_only, to_unsigned_only, floor_modulus_only, to_wrap_only, nearest_only, to_clamp_only, to_bool_only}
 use Rattle.cm_number.proofs.laws.conversions.Goals as goal
 
 pub returns-clause-to_signed : goal.returns-clause-to_signed

@@ -1,4 +1,4 @@
-use Rattle.cm_number.proofs.Divisions.{truncated_division_only, quotient_is, quotient_least, remainder_least}
+use Rattle.cm_number.proofs.Public.{truncated_division_only, quotient_is, quotient_least, remainder_least}
 use Rattle.cm_number.proofs.laws.division.Goals as goal
 
 pub returns-clause-unique : goal.returns-clause-unique

@@ -1,6 +1,4 @@
-use Rattle.cm_number.proofs.Conversions.{to_signed-Fits}
-use Rattle.cm_number.proofs.Results.{widened-Fits, quotient-Fits, left_shift-Fits, right_shift-Fits, zero_filled_shift-Fits, bitwise_and-Fits, bitwise_or-Fits, bitwise_xor-Fits, bitwise_not-Fits}
-use Rattle.cm_number.proofs.Divisions.{remainder-Fits}
+use Rattle.cm_number.proofs.Public.{to_signed-Fits, widened-Fits, quotient-Fits, left_shift-Fits, right_shift-Fits, zero_filled_shift-Fits, bitwise_and-Fits, bitwise_or-Fits, bitwise_xor-Fits, bitwise_not-Fits, remainder-Fits}
 use Rattle.cm_number.proofs.laws.results.Goals as goal
 
 pub returns-clause-to_signed : goal.returns-clause-to_signed

@@ -1,4 +1,4 @@
-use Rattle.cm_number.proofs.Shifts.{floor_quotient_only, left_shift_only, right_shift_only, zero_filled_shift_only, shift_amount-lt, shift_amount-cast_unsigned, shift_amount-to_signed}
+use Rattle.cm_number.proofs.Public.{floor_quotient_only, left_shift_only, right_shift_only, zero_filled_shift_only, shift_amount-lt, shift_amount-cast_unsigned, shift_amount-to_signed}
 use Rattle.cm_number.proofs.laws.shifts.Goals as goal
 
 pub returns-clause-floor_quotient : goal.returns-clause-floor_quotient

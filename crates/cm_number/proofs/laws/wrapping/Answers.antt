@@ -1,4 +1,4 @@
-use Rattle.cm_number.proofs.Conversions.{to_signed_fits, to_signed-to_signed, to_signed-narrow, to_signed-add_left, to_signed-add_right, to_signed-sub_left, to_signed-sub_right, to_signed-mul_left, to_signed-mul_right, to_signed-neg, floor_modulus-to_signed}
+use Rattle.cm_number.proofs.Public.{to_signed_fits, to_signed-to_signed, to_signed-narrow, to_signed-add_left, to_signed-add_right, to_signed-sub_left, to_signed-sub_right, to_signed-mul_left, to_signed-mul_right, to_signed-neg, floor_modulus-to_signed}
 use Rattle.cm_number.proofs.laws.wrapping.Goals as goal
 
 pub returns-clause-fits : goal.returns-clause-fits

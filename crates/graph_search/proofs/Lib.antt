@@ -1,0 +1,10 @@
+pub mod Steps
+pub mod Placement
+pub mod Cycles
+pub mod PathBack
+pub mod NoCycle
+pub mod Forward
+pub mod PathCounts
+pub mod Rows
+pub mod Leads
+pub mod Unique

@@ -1,0 +1,4 @@
+pub mod Edges
+pub mod Orders
+pub mod Counts
+pub mod Paths

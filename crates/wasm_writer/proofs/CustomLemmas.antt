@@ -5,10 +5,10 @@ use Rattle.std.proofs.lemmas.Bool.{cases_Bool}
 use Rattle.std.proofs.lemmas.List.{drop_more}
 use Rattle.std.proofs.lemmas.List.Elements.{filter_passes}
 use Rattle.wasm_tree.specs.declared.module.Custom.{Custom}
-use Rattle.wasm_tree.specs.Spelled.{cmajor, is_text, sorted_customs}
+use Rattle.wasm_tree.specs.Spelled.{is_cmajor, sorted_customs}
 
 abbrev pub named : Custom → Bool
-named custom = is_text custom.name cmajor
+named custom = is_cmajor custom.name
 
 abbrev others : List Custom → List Custom
 others customs = filter (λ custom. not (named custom)) customs

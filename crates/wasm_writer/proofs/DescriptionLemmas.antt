@@ -1,8 +1,6 @@
 -- The parts of the section `cmajor` are spelled as docs/MODULE.md says, and how many bytes they take at most.
-use Rattle.std.proofs.Common.{◌≡◌, ℕ, zero, suc, ◌+◌, ◌*◌, ◌/◌, ◌<◌, ◌≤◌, ◌^◌, List, [], ◌∷◌, ◌++◌, length, get_or, take, Option, Some, None, inl, inr, refl, sym, ap, ◌∙◌, arith, append_assoc}
-use Rattle.std.specs.Prelude.{ℤ}
+use Rattle.std.proofs.Common.{◌≡◌, ℕ, zero, suc, ◌+◌, ◌*◌, ◌<◌, ◌≤◌, ◌^◌, List, [], ◌∷◌, ◌++◌, length, get_or, take, Option, Some, None, refl, sym, ap, ◌∙◌, arith, append_assoc}
 use Rattle.std.specs.List.{flat_map, sum_by}
-use Rattle.std.proofs.lemmas.Bool.{cases_Bool, cases_lt}
 use Rattle.std.proofs.lemmas.List.{length-append, take_all}
 use Rattle.std.proofs.lemmas.List.Sums.{sum_by-cons}
 use Rattle.cm_base.specs.declared.host.Range.{Range}
@@ -11,14 +9,15 @@ use Rattle.cm_base.specs.declared.host.Scalar.{Scalar}
 use Rattle.cm_base.specs.declared.host.Scalar.TheVariants.{Int32, Int64, Bool as Truth, Wrap, Clamp}
 use Rattle.wasm_tree.specs.declared.interface.Interface.{Interface}
 use Rattle.wasm_tree.specs.declared.interface.Interface.TheVariants.{Single, Blocks}
-use Rattle.wasm_tree.specs.Spelled.{Joined, Each, Index, Signed, Vector, Name}
+use Rattle.wasm_tree.specs.Spelled.{Joined, Each, Index, Signed, Vector, Utf8Text}
 use Rattle.wasm_tree.specs.Section.{Slot, slots_of, flow_byte, kind_byte, Runs, Parameter, Spelled_slot, Spelled_interface, Spelled_section}
 use Rattle.wasm_writer.specs.declared.description.ScalarRun.{ScalarRun}
-use Rattle.wasm_writer.specs.Spelling.{unsigned_within, unsigned_bytes, is_seven_bits, signed_within, signed_bytes, vector_bytes, text_bytes, high_bits}
+use Rattle.wasm_writer.specs.Spelling.{unsigned_bytes, signed_bytes, vector_bytes, text_bytes}
 use Rattle.wasm_writer.specs.Description.{runs_of, scalar_bytes, run_bytes, shape_bytes, parameter_bytes, slot_bytes, interface_bytes, section_contents, most_bytes}
-use Rattle.wasm_writer.proofs.Numbers.{index_spelled, unsigned_one, unsigned_more}
+use Rattle.wasm_writer.proofs.Numbers.{index_spelled}
 use Rattle.wasm_writer.proofs.Parts.{joined, begins}
 use Rattle.wasm_writer.proofs.Runs.{runs_length}
+use Rattle.wasm_writer.proofs.Sizes.{unsigned_few, signed_few}
 
 pub range_spelled : (range : Range) → Signed 32 range.min (signed_bytes range.min) → Signed 32 range.max (signed_bytes range.max) → Signed 32 range.init (signed_bytes range.init) → Parameter (Some range) (parameter_bytes (Some range))
 range_spelled range min max init =
@@ -26,12 +25,12 @@ range_spelled range min max init =
     (joined (Signed 32 range.min) (Joined (Signed 32 range.max) (Signed 32 range.init)) (signed_bytes range.min) (signed_bytes range.max ++ signed_bytes range.init) min
     (joined (Signed 32 range.max) (Signed 32 range.init) (signed_bytes range.max) (signed_bytes range.init) max init))
 
-pub slot_spelled : (slot : Slot) → Name slot.end.name (text_bytes slot.end.name) → Index slot.address (unsigned_bytes slot.address) → Runs slot.end.shape (shape_bytes slot.end.shape) → Parameter slot.end.parameter (parameter_bytes slot.end.parameter) → Spelled_slot slot (slot_bytes slot)
+pub slot_spelled : (slot : Slot) → Utf8Text slot.end.name (text_bytes slot.end.name) → Index slot.address (unsigned_bytes slot.address) → Runs slot.end.shape (shape_bytes slot.end.shape) → Parameter slot.end.parameter (parameter_bytes slot.end.parameter) → Spelled_slot slot (slot_bytes slot)
 slot_spelled slot name address shape parameter =
     let rest = shape_bytes slot.end.shape ++ parameter_bytes slot.end.parameter in
     let Rest = Joined (Runs slot.end.shape) (Parameter slot.end.parameter) in
     begins (flow_byte slot.end.flow) _ _ (begins (kind_byte slot.end.kind) _ _
-    (joined (Name slot.end.name) (Joined (Index slot.address) Rest) (text_bytes slot.end.name) (unsigned_bytes slot.address ++ rest) name
+    (joined (Utf8Text slot.end.name) (Joined (Index slot.address) Rest) (text_bytes slot.end.name) (unsigned_bytes slot.address ++ rest) name
     (joined (Index slot.address) Rest (unsigned_bytes slot.address) rest address
     (joined (Runs slot.end.shape) (Parameter slot.end.parameter) (shape_bytes slot.end.shape) (parameter_bytes slot.end.parameter) shape parameter))))
 
@@ -73,38 +72,15 @@ section_spelled interface latency slots first short each =
 
 -- ---- sizes
 
-unsigned_size : (k n : ℕ) → length (unsigned_within k n) ≤ k + 1
-unfolding unsigned_within
-unsigned_size zero n = omega arith
-unsigned_size (suc k) n =
-    elim (cases_lt n 128) [
-      | inl small ↦ rw (unsigned_one (suc k) n small) (omega arith)
-      | inr le ↦ rw (unsigned_more k n le) (omega (arith, unsigned_size k (n / 128)))
-    ]
-
-number_size : (n : ℕ) → length (unsigned_bytes n) ≤ 5
-unfolding unsigned_bytes
-number_size n = unsigned_size 4 n
-
-signed_size : (k : ℕ) (z : ℤ) → length (signed_within k z) ≤ k + 1
-unfolding signed_within
-signed_size zero z = omega arith
-signed_size (suc k) z =
-    elim (cases_Bool (is_seven_bits z)) [ inl short ↦ rw short (omega arith) | inr long ↦ rw long (omega (arith, signed_size k (high_bits z))) ]
-
-integer_size : (z : ℤ) → length (signed_bytes z) ≤ 10
-unfolding signed_bytes
-integer_size z = signed_size 9 z
-
 scalar_size : (kind : Scalar) → length (scalar_bytes kind) ≤ 6
 scalar_size Int32 = omega arith
 scalar_size Int64 = omega arith
 scalar_size Truth = omega arith
-scalar_size (Wrap n) = omega (arith, number_size n)
-scalar_size (Clamp n) = omega (arith, number_size n)
+scalar_size (Wrap n) = omega (arith, unsigned_few n)
+scalar_size (Clamp n) = omega (arith, unsigned_few n)
 
 run_size : (run : ScalarRun) → length (run_bytes run) ≤ 11
-run_size run = omega (arith, length-append (unsigned_bytes run.count) (scalar_bytes run.kind), number_size run.count, scalar_size run.kind)
+run_size run = omega (arith, length-append (unsigned_bytes run.count) (scalar_bytes run.kind), unsigned_few run.count, scalar_size run.kind)
 
 runs_size : (runs : List ScalarRun) → length (flat_map run_bytes runs) ≤ 11 * length runs
 runs_size [] = omega arith
@@ -113,12 +89,12 @@ runs_size (run ∷ runs) = omega (arith, length-append (run_bytes run) (flat_map
 shape_size : (shape : List Scalar) → length (shape_bytes shape) ≤ 5 + 11 * length shape
 shape_size shape =
     let runs = runs_of shape in
-    omega (arith, length-append (unsigned_bytes (length runs)) (flat_map run_bytes runs), number_size (length runs), runs_size runs, runs_length shape)
+    omega (arith, length-append (unsigned_bytes (length runs)) (flat_map run_bytes runs), unsigned_few (length runs), runs_size runs, runs_length shape)
 
 parameter_size : (parameter : Option Range) → length (parameter_bytes parameter) ≤ 31
 parameter_size None = omega arith
 parameter_size (Some range) =
-    omega (arith, length-append (signed_bytes range.min) (signed_bytes range.max ++ signed_bytes range.init), length-append (signed_bytes range.max) (signed_bytes range.init), integer_size range.min, integer_size range.max, integer_size range.init)
+    omega (arith, length-append (signed_bytes range.min) (signed_bytes range.max ++ signed_bytes range.init), length-append (signed_bytes range.max) (signed_bytes range.init), signed_few range.min, signed_few range.max, signed_few range.init)
 
 slot_size : (slot : Slot) → length (slot_bytes slot) ≤ most_bytes slot.end
 slot_size slot =
@@ -126,7 +102,7 @@ slot_size slot =
     let shape = shape_bytes slot.end.shape in
     let parameter = parameter_bytes slot.end.parameter in
     let address = unsigned_bytes slot.address in
-    omega (arith, length-append (text_bytes name) (address ++ (shape ++ parameter)), length-append (unsigned_bytes (length name)) name, length-append address (shape ++ parameter), length-append shape parameter, number_size (length name), number_size slot.address, shape_size slot.end.shape, parameter_size slot.end.parameter)
+    omega (arith, length-append (text_bytes name) (address ++ (shape ++ parameter)), length-append (unsigned_bytes (length name)) name, length-append address (shape ++ parameter), length-append shape parameter, unsigned_few (length name), unsigned_few slot.address, shape_size slot.end.shape, parameter_size slot.end.parameter)
 
 slots_size : (ends : List HostEnd) (addresses : List ℕ) → length (flat_map slot_bytes (slots_of ends addresses)) ≤ sum_by most_bytes ends
 slots_size [] addresses = omega arith
@@ -136,12 +112,12 @@ slots_size (end ∷ ends) (address ∷ addresses) =
     omega (arith, length-append (slot_bytes slot) (flat_map slot_bytes (slots_of ends addresses)), slot_size slot, slots_size ends addresses, sum_by-cons most_bytes end ends)
 
 interface_size : (interface : Interface) (latency : ℕ) → length (interface_bytes interface latency) ≤ 11
-interface_size Single latency = omega (arith, number_size latency)
-interface_size (Blocks block) latency = omega (arith, length-append (unsigned_bytes latency) (unsigned_bytes block), number_size latency, number_size block)
+interface_size Single latency = omega (arith, unsigned_few latency)
+interface_size (Blocks block) latency = omega (arith, length-append (unsigned_bytes latency) (unsigned_bytes block), unsigned_few latency, unsigned_few block)
 
 -- the section takes no more bytes than this
 pub section_bound : (interface : Interface) (latency : ℕ) (ends : List HostEnd) (addresses : List ℕ) → length (section_contents interface latency (slots_of ends addresses)) ≤ 16 + sum_by most_bytes ends
 unfolding section_contents
 section_bound interface latency ends addresses =
     let slots = slots_of ends addresses in
-    omega (arith, length-append (interface_bytes interface latency) (vector_bytes slot_bytes slots), length-append (unsigned_bytes (length slots)) (flat_map slot_bytes slots), interface_size interface latency, number_size (length slots), slots_size ends addresses)
+    omega (arith, length-append (interface_bytes interface latency) (vector_bytes slot_bytes slots), length-append (unsigned_bytes (length slots)) (flat_map slot_bytes slots), interface_size interface latency, unsigned_few (length slots), slots_size ends addresses)

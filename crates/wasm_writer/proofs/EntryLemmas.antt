@@ -10,21 +10,20 @@ use Rattle.wasm_tree.specs.declared.module.LocalRun.{LocalRun}
 use Rattle.wasm_tree.specs.declared.module.FuncBody.{FuncBody}
 use Rattle.wasm_tree.specs.declared.module.Segment.{Segment}
 use Rattle.wasm_tree.specs.declared.module.Custom.{Custom}
-use Rattle.wasm_tree.specs.Spelled.{Joined, Is, Begins, Each, Index, Signed, Vector, Text, Name, Type_of_value, type_byte, Import_kind, Imported, Export_kind, Exported, mutable_byte, Instruction, IsConstant, Global, Data, Locals, LocalRuns, Expression, Body, Custom_contents}
-use Rattle.wasm_writer.specs.Spelling.{unsigned_bytes, signed_bytes, vector_bytes, text_bytes, import_kind_bytes, import_bytes, export_kind_bytes, export_bytes, instruction_bytes, global_bytes, locals_bytes, code_bytes, body_bytes, segment_bytes, custom_contents}
-use Rattle.wasm_writer.specs.Writable.{IsFormed}
-use Rattle.wasm_writer.proofs.Begins.{locals_begin}
+use Rattle.wasm_tree.specs.Spelled.{Joined, Is, Begins, Each, Index, Signed, Vector, Text, Utf8Text, Type_of_value, type_byte, Import_kind, Imported, Export_kind, Exported, mutable_byte, Instruction, IsConstant, Global, Data, Locals, LocalRuns, Expression, Body, Custom_contents}
+use Rattle.wasm_writer.specs.Spelling.{unsigned_bytes, signed_bytes, vector_bytes, text_bytes, import_kind_bytes, import_bytes, export_kind_bytes, export_bytes, instruction_bytes, global_bytes, locals_bytes, code_bytes, body_bytes, segment_bytes, custom_contents, IsFormed}
+use Rattle.wasm_writer.proofs.Nonempty.{locals_nonempty}
 use Rattle.wasm_writer.proofs.Parts.{joined, begins, text_spelled, vector_count}
 
-pub name_spelled : (name : List ℕ) → IsUtf8 name → Text name (text_bytes name) → Name name (text_bytes name)
+pub name_spelled : (name : List ℕ) → IsUtf8 name → Text name (text_bytes name) → Utf8Text name (text_bytes name)
 name_spelled name utf8 spelled = record { spelled = spelled; utf8 = utf8 }
 
 -- ---- imports and exports
 
-pub import_spelled : (import : Import) → Name import.«module» (text_bytes import.«module») → Name import.name (text_bytes import.name) → Import_kind import.kind (import_kind_bytes import.kind) → Imported import (import_bytes import)
+pub import_spelled : (import : Import) → Utf8Text import.«module» (text_bytes import.«module») → Utf8Text import.name (text_bytes import.name) → Import_kind import.kind (import_kind_bytes import.kind) → Imported import (import_bytes import)
 import_spelled import first second kind =
-    joined (Name import.«module») (Joined (Name import.name) (Import_kind import.kind)) (text_bytes import.«module») (text_bytes import.name ++ import_kind_bytes import.kind) first
-    (joined (Name import.name) (Import_kind import.kind) (text_bytes import.name) (import_kind_bytes import.kind) second kind)
+    joined (Utf8Text import.«module») (Joined (Utf8Text import.name) (Import_kind import.kind)) (text_bytes import.«module») (text_bytes import.name ++ import_kind_bytes import.kind) first
+    (joined (Utf8Text import.name) (Import_kind import.kind) (text_bytes import.name) (import_kind_bytes import.kind) second kind)
 
 text_within : (text : List ℕ) → length text ≤ length (text_bytes text)
 text_within text = omega (arith, length-append (unsigned_bytes (length text)) text)
@@ -35,8 +34,8 @@ import_sizes import h =
     let rest = length-append (text_bytes import.name) (import_kind_bytes import.kind) in
     (omega (arith, whole, text_within import.«module»), omega (arith, whole, rest, text_within import.name))
 
-pub export_spelled : (entry : ExportEntry) → Name entry.name (text_bytes entry.name) → Export_kind entry.kind (export_kind_bytes entry.kind) → Exported entry (export_bytes entry)
-export_spelled entry name kind = joined (Name entry.name) (Export_kind entry.kind) (text_bytes entry.name) (export_kind_bytes entry.kind) name kind
+pub export_spelled : (entry : ExportEntry) → Utf8Text entry.name (text_bytes entry.name) → Export_kind entry.kind (export_kind_bytes entry.kind) → Exported entry (export_bytes entry)
+export_spelled entry name kind = joined (Utf8Text entry.name) (Export_kind entry.kind) (text_bytes entry.name) (export_kind_bytes entry.kind) name kind
 
 pub export_sizes : (entry : ExportEntry) → length (export_bytes entry) < 2 ^ 32 → length entry.name < 2 ^ 32
 export_sizes entry h = omega (arith, length-append (text_bytes entry.name) (export_kind_bytes entry.kind), text_within entry.name)
@@ -62,7 +61,7 @@ locals_spelled run h = joined (Index run.count) (Type_of_value run.ty) (unsigned
 
 pub body_spelled : (body : FuncBody) → IsFormed body → length (code_bytes body) < 2 ^ 32 → Vector Locals body.locals (vector_bytes locals_bytes body.locals) → Each Instruction body.code (flat_map instruction_bytes body.code) → Body body (body_bytes body)
 body_spelled body formed sized locals code =
-    (code_bytes body, text_spelled (code_bytes body) sized, joined (LocalRuns body.locals) (Expression body.code) (vector_bytes locals_bytes body.locals) (flat_map instruction_bytes body.code) (record { spelled = locals; few = formed.0 }) (record { spelled = code; closed = formed.1 }))
+    (code_bytes body, text_spelled (code_bytes body) sized, joined (LocalRuns body.locals) (Expression body.code) (vector_bytes locals_bytes body.locals) (flat_map instruction_bytes body.code) (record { spelled = locals; few = formed.few }) (record { spelled = code; closed = formed.closed }))
 
 pub record BodySizes (body : FuncBody) : Type 0 where
   pub whole : length (code_bytes body) < 2 ^ 32
@@ -75,7 +74,7 @@ body_sizes body h =
     let parts = length-append (vector_bytes locals_bytes body.locals) (flat_map instruction_bytes body.code) in
     let whole : length (code_bytes body) < 2 ^ 32 = omega (arith, text_within (code_bytes body)) in
     let locals : length (vector_bytes locals_bytes body.locals) < 2 ^ 32 = omega (arith, parts) in
-    record { whole = whole; counted = vector_count locals_bytes body.locals locals_begin locals; locals = locals; code = omega (arith, parts) }
+    record { whole = whole; counted = vector_count locals_bytes body.locals locals_nonempty locals; locals = locals; code = omega (arith, parts) }
 
 -- ---- data
 
@@ -94,8 +93,8 @@ segment_sizes segment h =
 
 -- ---- custom sections
 
-pub custom_spelled : (custom : Custom) → Name custom.name (text_bytes custom.name) → Custom_contents custom (custom_contents custom)
-custom_spelled custom h = joined (Name custom.name) (Is custom.bytes) (text_bytes custom.name) custom.bytes h refl
+pub custom_spelled : (custom : Custom) → Utf8Text custom.name (text_bytes custom.name) → Custom_contents custom (custom_contents custom)
+custom_spelled custom h = joined (Utf8Text custom.name) (Is custom.bytes) (text_bytes custom.name) custom.bytes h refl
 
 pub custom_sizes : (custom : Custom) → length (custom_contents custom) < 2 ^ 32 → length custom.name < 2 ^ 32
 custom_sizes custom h = omega (arith, length-append (text_bytes custom.name) custom.bytes, text_within custom.name)

@@ -19,10 +19,10 @@ use Rattle.wasm_tree.specs.declared.module.Segment.{Segment}
 use Rattle.wasm_tree.specs.declared.module.Custom.{Custom}
 use Rattle.wasm_tree.specs.declared.instr.MemArg.{MemArg}
 use Rattle.wasm_tree.specs.declared.instr.Instr.{Instr}
-use Rattle.wasm_tree.specs.declared.instr.Instr.TheVariants.{Unreachable, Nop, Block, Loop, If, Else, End, Br, BrIf, BrTable, Return, Call, Drop, Select, LocalGet, LocalSet, LocalTee, GlobalGet, GlobalSet, Load, Store, MemorySize, I32Const, I64Const, Test, Compare, Unary, Binary, Convert}
-use Rattle.wasm_tree.specs.Opcode.{load_opcode, store_opcode}
-use Rattle.wasm_tree.specs.Spelled.{Joined, Is, Begins, Each, Index, Signed, Vector, Text, Name, type_byte, Type_of_value, Type_of_function, Bounds, Memory, Place, Instruction, Import_kind, Imported, Export_kind, Exported, mutable_byte, Global, Data, Locals, LocalRuns, Expression, Body, Custom_contents}
-use Rattle.wasm_writer.specs.Spelling.{unsigned_within, unsigned_bytes, signed_bytes, vector_bytes, text_bytes, value_type_bytes, function_type_bytes, bounds_bytes, memory_bytes, place_bytes, instruction_bytes, import_kind_bytes, import_bytes, export_kind_bytes, export_bytes, global_bytes, locals_bytes, code_bytes, body_bytes, segment_bytes, custom_contents}
+use Rattle.wasm_tree.specs.declared.instr.Instr.TheVariants.{Block, Loop, If, Br, BrIf, BrTable, Call, LocalGet, LocalSet, LocalTee, GlobalGet, GlobalSet, Load, Store, MemorySize, I32Const, I64Const}
+use Rattle.wasm_tree.specs.Opcode.{opcode_of}
+use Rattle.wasm_tree.specs.Spelled.{Joined, Is, Begins, Each, Index, Signed, Vector, Text, Utf8Text, type_byte, Type_of_value, Type_of_function, Bounds, Memory, MemoryArgument, Immediates, Instruction, Import_kind, Imported, Export_kind, Exported, mutable_byte, Global, Data, Locals, LocalRuns, Expression, Body, Custom_contents}
+use Rattle.wasm_writer.specs.Spelling.{unsigned_within, unsigned_bytes, signed_bytes, vector_bytes, text_bytes, value_type_bytes, function_type_bytes, bounds_bytes, memory_bytes, memory_argument_bytes, immediate_bytes, instruction_bytes, import_kind_bytes, import_bytes, export_kind_bytes, export_bytes, global_bytes, locals_bytes, code_bytes, body_bytes, segment_bytes, custom_contents}
 use Rattle.wasm_writer.proofs.Numbers.{unsigned_one, unsigned_more, index_shortest, signed_shortest}
 
 -- what P allows has as many bytes at least
@@ -45,7 +45,7 @@ each_least : {A : Type 0} (P : A → List ℕ → Type 0) (part : A → List ℕ
 each_least P part h [] = is_least []
 each_least P part h (x ∷ xs) = joined_least {P = P x} {Q = Each P xs} (h x) (each_least P part h xs)
 
-index_least : (n : ℕ) → Least (Index n) (unsigned_bytes n)
+pub index_least : (n : ℕ) → Least (Index n) (unsigned_bytes n)
 index_least n = record { le = index_shortest n }
 
 signed_least : (bits : ℕ) (z : ℤ) → Least (Signed bits z) (signed_bytes z)
@@ -80,7 +80,7 @@ text_least shorter text le = record {
       omega (arith, index_shortest (length text) h.front h.first, bytes_mono (length shorter) (length text) le, ap length h.second, ap length h.whole, length-append h.front h.back, length-append (unsigned_bytes (length shorter)) shorter, le);
 }
 
-name_least : (name : List ℕ) → Least (Name name) (text_bytes name)
+name_least : (name : List ℕ) → Least (Utf8Text name) (text_bytes name)
 name_least name = let text = text_least name name (omega arith) in record { le = λ bytes h. text.le bytes h.spelled }
 
 -- ---- types
@@ -100,39 +100,31 @@ memory_least limits = bounds_least limits.min limits.max
 
 -- ---- instructions
 
-place_least : (place : MemArg) → Least (Place place) (place_bytes place)
-place_least place = joined_least (index_least place.align) (index_least place.offset)
+memory_argument_least : (place : MemArg) → Least (MemoryArgument place) (memory_argument_bytes place)
+memory_argument_least place = joined_least (index_least place.align) (index_least place.offset)
 
-pub instruction_least : (i : Instr) → Least (Instruction i) (instruction_bytes i)
-instruction_least Unreachable = is_least _
-instruction_least Nop = is_least _
-instruction_least (Block result) = is_least _
-instruction_least (Loop result) = is_least _
-instruction_least (If result) = is_least _
-instruction_least Else = is_least _
-instruction_least End = is_least _
-instruction_least (Br label) = begins_least 0x0C (index_least label)
-instruction_least (BrIf label) = begins_least 0x0D (index_least label)
-instruction_least (BrTable labels other) = begins_least 0x0E (joined_least (vector_least Index unsigned_bytes index_least labels) (index_least other))
-instruction_least Return = is_least _
-instruction_least (Call function) = begins_least 0x10 (index_least function)
-instruction_least Drop = is_least _
-instruction_least Select = is_least _
-instruction_least (LocalGet local) = begins_least 0x20 (index_least local)
-instruction_least (LocalSet local) = begins_least 0x21 (index_least local)
-instruction_least (LocalTee local) = begins_least 0x22 (index_least local)
-instruction_least (GlobalGet global) = begins_least 0x23 (index_least global)
-instruction_least (GlobalSet global) = begins_least 0x24 (index_least global)
-instruction_least (Load op place) = begins_least (load_opcode op) (place_least place)
-instruction_least (Store op place) = begins_least (store_opcode op) (place_least place)
-instruction_least MemorySize = is_least _
-instruction_least (I32Const value) = begins_least 0x41 (signed_least 32 value)
-instruction_least (I64Const value) = begins_least 0x42 (signed_least 64 value)
-instruction_least (Test type) = is_least _
-instruction_least (Compare type op) = is_least _
-instruction_least (Unary type op) = is_least _
-instruction_least (Binary type op) = is_least _
-instruction_least (Convert op) = is_least _
+immediates_least : (i : Instr) → Least (Immediates i) (immediate_bytes i)
+immediates_least (Block result) = is_least _
+immediates_least (Loop result) = is_least _
+immediates_least (If result) = is_least _
+immediates_least (Br label) = index_least label
+immediates_least (BrIf label) = index_least label
+immediates_least (BrTable table) = joined_least (vector_least Index unsigned_bytes index_least table.labels) (index_least table.other)
+immediates_least (Call function) = index_least function
+immediates_least (LocalGet local) = index_least local
+immediates_least (LocalSet local) = index_least local
+immediates_least (LocalTee local) = index_least local
+immediates_least (GlobalGet global) = index_least global
+immediates_least (GlobalSet global) = index_least global
+immediates_least (Load op place) = memory_argument_least place
+immediates_least (Store op place) = memory_argument_least place
+immediates_least MemorySize = is_least _
+immediates_least (I32Const value) = signed_least 32 value
+immediates_least (I64Const value) = signed_least 64 value
+immediates_least _ = is_least []
+
+instruction_least : (i : Instr) → Least (Instruction i) (instruction_bytes i)
+instruction_least i = begins_least (opcode_of i) (immediates_least i)
 
 -- ---- entries
 
@@ -175,6 +167,3 @@ segment_least segment =
 
 pub custom_least : (custom : Custom) → Least (Custom_contents custom) (custom_contents custom)
 custom_least custom = joined_least (name_least custom.name) (is_least custom.bytes)
-
-pub index_is_least : (n : ℕ) → Least (Index n) (unsigned_bytes n)
-index_is_least n = index_least n

@@ -1,4 +1,3 @@
-pub mod Begins
 pub mod CustomLemmas
 pub mod DescriptionLemmas
 pub mod EntryLemmas
@@ -6,11 +5,10 @@ pub mod InstructionLemmas
 pub mod LeastModules
 pub mod LeastParts
 pub mod ModuleLemmas
+pub mod Nonempty
 pub mod Numbers
-pub mod Opened
 pub mod Parts
 pub mod Runs
-pub mod SampleLemmas
 pub mod SectionLemmas
 pub mod Sizes
 pub mod TypeLemmas

@@ -63,9 +63,14 @@ all_seen P xs i le before = All-same P xs (take i xs) (sym (take_all i xs le)) b
 
 -- ---- a section with something to list, and one with nothing
 
-pub section_some : {A : Type 0} (id : ℕ) (part : A → List ℕ) (xs : List A) → 0 < length xs → section_bytes id part xs ≡ id ∷ text_bytes (vector_bytes part xs)
+section_some : {A : Type 0} (id : ℕ) (part : A → List ℕ) (xs : List A) → 0 < length xs → section_bytes id part xs ≡ id ∷ text_bytes (vector_bytes part xs)
 section_some id part [] h = absurd (omega arith)
 section_some id part (x ∷ xs) h = refl
+
+pub section_put : {A : Type 0} (id size : ℕ) (part : A → List ℕ) (xs : List A) (start first second new : List ℕ) → 0 < length xs → size ≡ length (vector_bytes part xs) → first ≡ start ++ id ∷ [] → second ≡ first ++ unsigned_bytes size → new ≡ second ++ vector_bytes part xs → new ≡ start ++ section_bytes id part xs
+section_put id size part xs start first second new some sized e f g =
+    rw (section_some id part xs some, g, f, e, sized)
+    (append_assoc (start ++ id ∷ []) (unsigned_bytes (length (vector_bytes part xs))) (vector_bytes part xs) ∙ append_assoc start (id ∷ []) (text_bytes (vector_bytes part xs)))
 
 pub section_none : {A : Type 0} (id : ℕ) (part : A → List ℕ) (xs : List A) → length xs ≡ 0 → section_bytes id part xs ≡ []
 section_none id part [] h = refl

@@ -14,7 +14,7 @@ use Rattle.wasm_tree.specs.Spelled.{Index, Each}
 use Rattle.wasm_tree.specs.Section.{Run, Runs, Spelled_run}
 use Rattle.wasm_writer.specs.declared.description.ScalarRun.{ScalarRun}
 use Rattle.wasm_writer.specs.Spelling.{unsigned_bytes}
-use Rattle.wasm_writer.specs.Description.{is_same_kind, with_scalar, runs_of, run_bytes, Spelled_count, shape_bytes}
+use Rattle.wasm_writer.specs.Description.{is_same_kind, with_scalar, runs_of, run_bytes, Spelled_scalar_run, shape_bytes}
 use Rattle.wasm_writer.proofs.Numbers.{index_spelled}
 use Rattle.wasm_writer.proofs.Parts.{joined}
 
@@ -151,7 +151,7 @@ unfolding listed
 listed_length [] h = refl
 listed_length (run ∷ runs) h = ap suc (listed_length runs h.1)
 
-listed_spelled : (runs : List ScalarRun) (h : HaveSome runs) (bytes : List ℕ) → Each Spelled_count runs bytes → Each Spelled_run (listed runs h) bytes
+listed_spelled : (runs : List ScalarRun) (h : HaveSome runs) (bytes : List ℕ) → Each Spelled_scalar_run runs bytes → Each Spelled_run (listed runs h) bytes
 unfolding listed
 listed_spelled [] h bytes each = each
 listed_spelled (run ∷ runs) h bytes each = record {
@@ -184,7 +184,7 @@ unfolding scalars_of
 scalars_again [] = refl
 scalars_again (kind ∷ shape) = with_scalars kind (runs_of shape) ∙ ap (λ (rest : List Scalar). kind ∷ rest) (scalars_again shape)
 
-pub shape_spelled : (shape : List Scalar) → length shape < 2 ^ 32 → Each Spelled_count (runs_of shape) (flat_map run_bytes (runs_of shape)) → Runs shape (shape_bytes shape)
+pub shape_spelled : (shape : List Scalar) → length shape < 2 ^ 32 → Each Spelled_scalar_run (runs_of shape) (flat_map run_bytes (runs_of shape)) → Runs shape (shape_bytes shape)
 shape_spelled shape lt each =
     let some = have_some shape in
     let count = listed_length (runs_of shape) some in
@@ -208,9 +208,9 @@ written_more runs i start now new lt before e =
     rw (take_more runs i none lt, flat_map-append run_bytes (take i runs) (get_or runs i none ∷ []), append-nil (run_bytes (get_or runs i none)))
     (e ∙ ap (λ (bytes : List ℕ). bytes ++ run_bytes (get_or runs i none)) before ∙ append_assoc start (flat_map run_bytes (take i runs)) (run_bytes (get_or runs i none)))
 
-pub spelled_more : (runs : List ScalarRun) (i : ℕ) → i < length runs → All (λ run. Spelled_count run (run_bytes run)) (take i runs) → Spelled_count (get_or runs i none) (run_bytes (get_or runs i none)) → All (λ run. Spelled_count run (run_bytes run)) (take (i + 1) runs)
-spelled_more runs i lt before this = All-more (λ (run : ScalarRun). Spelled_count run (run_bytes run)) runs i none lt before this
+pub spelled_more : (runs : List ScalarRun) (i : ℕ) → i < length runs → All (λ run. Spelled_scalar_run run (run_bytes run)) (take i runs) → Spelled_scalar_run (get_or runs i none) (run_bytes (get_or runs i none)) → All (λ run. Spelled_scalar_run run (run_bytes run)) (take (i + 1) runs)
+spelled_more runs i lt before this = All-more (λ (run : ScalarRun). Spelled_scalar_run run (run_bytes run)) runs i none lt before this
 
-pub shape_put : {E : Type 0} (shape : List Scalar) (runs : List ScalarRun) (result : Result (Unit {0}) E) → length shape < 2 ^ 32 → runs ≡ runs_of shape → OnOk result (Each Spelled_count runs (flat_map run_bytes runs)) → OnOk result (Runs shape (shape_bytes shape))
-shape_put shape runs (Ok x) short is each = shape_spelled shape short (subst (λ (some : List ScalarRun). Each Spelled_count some (flat_map run_bytes some)) is each)
+pub shape_put : {E : Type 0} (shape : List Scalar) (runs : List ScalarRun) (result : Result (Unit {0}) E) → length shape < 2 ^ 32 → runs ≡ runs_of shape → OnOk result (Each Spelled_scalar_run runs (flat_map run_bytes runs)) → OnOk result (Runs shape (shape_bytes shape))
+shape_put shape runs (Ok x) short is each = shape_spelled shape short (subst (λ (some : List ScalarRun). Each Spelled_scalar_run some (flat_map run_bytes some)) is each)
 shape_put shape runs (Err e) short is each = each

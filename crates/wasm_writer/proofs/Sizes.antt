@@ -13,9 +13,10 @@ use Rattle.wasm_tree.specs.declared.module.FuncBody.{FuncBody}
 use Rattle.wasm_tree.specs.declared.module.Segment.{Segment}
 use Rattle.wasm_tree.specs.declared.module.Custom.{Custom}
 use Rattle.wasm_tree.specs.declared.instr.MemArg.{MemArg}
+use Rattle.wasm_tree.specs.declared.instr.LabelTable.{LabelTable}
 use Rattle.wasm_tree.specs.Spelled.{type_byte}
 use Rattle.wasm_writer.specs.Size.{capped}
-use Rattle.wasm_writer.specs.Spelling.{unsigned_within, unsigned_bytes, signed_within, signed_bytes, high_bits, vector_bytes, text_bytes, value_type_bytes, function_type_bytes, bounds_bytes, place_bytes, instruction_bytes, import_kind_bytes, import_bytes, export_kind_bytes, export_bytes, global_bytes, locals_bytes, code_bytes, body_bytes, segment_bytes, custom_contents}
+use Rattle.wasm_writer.specs.Spelling.{unsigned_within, unsigned_bytes, signed_within, signed_bytes, high_bits, vector_bytes, text_bytes, value_type_bytes, function_type_bytes, bounds_bytes, memory_argument_bytes, table_bytes, instruction_bytes, import_kind_bytes, import_bytes, export_kind_bytes, export_bytes, global_bytes, locals_bytes, code_bytes, body_bytes, segment_bytes, section_bytes, custom_contents, custom_bytes}
 use Rattle.wasm_writer.proofs.Numbers.{unsigned_one, unsigned_more, magnitude, signed_one, signed_more, step_within}
 use Rattle.wasm_writer.proofs.Parts.{parts_more}
 
@@ -52,6 +53,19 @@ pub five_bytes : (n : ℕ) → 268435456 ≤ n → length (unsigned_bytes n) ≡
 unfolding unsigned_bytes
 five_bytes n l = more 3 n 4 (omega arith) (more 2 (n / 128) 3 (omega arith) (more 1 (n / 128 / 128) 2 (omega arith) (more 0 (n / 128 / 128 / 128) 1 (omega arith) (at_most (n / 128 / 128 / 128 / 128)))))
 
+unsigned_within_few : (k n : ℕ) → length (unsigned_within k n) ≤ k + 1
+unfolding unsigned_within
+unsigned_within_few zero n = omega arith
+unsigned_within_few (suc k) n =
+    elim (cases_lt n 128) [
+      | inl lt ↦ rw (unsigned_one (suc k) n lt) (omega arith)
+      | inr le ↦ rw (unsigned_more k n le) (omega (arith, unsigned_within_few k (n / 128)))
+    ]
+
+pub unsigned_few : (n : ℕ) → length (unsigned_bytes n) ≤ 5
+unfolding unsigned_bytes
+unsigned_few n = unsigned_within_few 4 n
+
 -- a signed number takes as many bytes as its magnitude
 signed_as : (k : ℕ) (z : ℤ) → length (signed_within k z) ≡ length (signed_within k (pos (magnitude z)))
 unfolding signed_within
@@ -68,18 +82,18 @@ unfolding signed_bytes
 signed_size_as z n (inl e) = rw e refl
 signed_size_as z n (inr e) = rw e (signed_as 9 (negsuc n))
 
-signed_few : (k : ℕ) (z : ℤ) → length (signed_within k z) ≤ k + 1
+signed_within_few : (k : ℕ) (z : ℤ) → length (signed_within k z) ≤ k + 1
 unfolding signed_within
-signed_few zero z = omega arith
-signed_few (suc k) z =
+signed_within_few zero z = omega arith
+signed_within_few (suc k) z =
     elim (cases_lt (magnitude z) 64) [
       | inl lt ↦ rw (signed_one (suc k) z lt) (omega arith)
-      | inr le ↦ rw (signed_more k z le) (omega (arith, signed_few k (high_bits z)))
+      | inr le ↦ rw (signed_more k z le) (omega (arith, signed_within_few k (high_bits z)))
     ]
 
-pub signed_size_few : (z : ℤ) → length (signed_bytes z) ≤ 10
+pub signed_few : (z : ℤ) → length (signed_bytes z) ≤ 10
 unfolding signed_bytes
-signed_size_few z = signed_few 9 z
+signed_few z = signed_within_few 9 z
 
 -- a loop's turn: seven bits of the rest take a byte
 pub signed_size_more : (n : ℕ) → n < 2 ^ 63 → 64 ≤ n → length (signed_bytes (pos n)) ≡ 1 + length (signed_bytes (pos (n / 128)))
@@ -121,11 +135,11 @@ bounds_sized least most limit e = rw e (omega (arith, length-append (unsigned_by
 
 -- ---- instructions
 
-pub place_sized : (place : MemArg) → length (place_bytes place) ≡ length (unsigned_bytes place.align) + length (unsigned_bytes place.offset)
-place_sized place = length-append (unsigned_bytes place.align) (unsigned_bytes place.offset)
+pub memory_argument_sized : (place : MemArg) → length (memory_argument_bytes place) ≡ length (unsigned_bytes place.align) + length (unsigned_bytes place.offset)
+memory_argument_sized place = length-append (unsigned_bytes place.align) (unsigned_bytes place.offset)
 
-pub table_sized : (labels : List ℕ) (other vector index size : ℕ) → vector ≡ capped (length (vector_bytes unsigned_bytes labels)) → index ≡ 1 + length (unsigned_bytes other) → size ≡ capped (vector + index) → size ≡ capped (1 + length (vector_bytes unsigned_bytes labels ++ unsigned_bytes other))
-table_sized labels other vector index size v i e = omega (arith, v, i, e, length-append (vector_bytes unsigned_bytes labels) (unsigned_bytes other))
+pub table_sized : (table : LabelTable) (labels other size : ℕ) → labels ≡ capped (length (vector_bytes unsigned_bytes table.labels)) → other ≡ length (unsigned_bytes table.other) → size ≡ capped (labels + other) → size ≡ capped (length (table_bytes table))
+table_sized table labels other size l o e = omega (arith, l, o, e, length-append (vector_bytes unsigned_bytes table.labels) (unsigned_bytes table.other))
 
 -- ---- entries
 
@@ -154,9 +168,11 @@ behind_sized bytes contents count size c h e =
       | inr le ↦ omega (arith, whole, c, le, e)
     ]
 
-pub body_sized : (body : FuncBody) (locals code contents count size : ℕ) → locals ≡ capped (length (vector_bytes locals_bytes body.locals)) → code ≡ capped (length (flat_map instruction_bytes body.code)) → contents ≡ capped (locals + code) → count ≡ length (unsigned_bytes contents) → size ≡ capped (count + contents) → size ≡ capped (length (body_bytes body))
-body_sized body locals code contents count size l c s n e =
-    behind_sized (code_bytes body) contents count size (sum_sized (vector_bytes locals_bytes body.locals) (flat_map instruction_bytes body.code) locals code contents l c s) n e
+pub code_sized : (body : FuncBody) (locals code size : ℕ) → locals ≡ capped (length (vector_bytes locals_bytes body.locals)) → code ≡ capped (length (flat_map instruction_bytes body.code)) → size ≡ capped (locals + code) → size ≡ capped (length (code_bytes body))
+code_sized body locals code size l c e = sum_sized (vector_bytes locals_bytes body.locals) (flat_map instruction_bytes body.code) locals code size l c e
+
+pub body_sized : (body : FuncBody) (contents count size : ℕ) → contents ≡ capped (length (code_bytes body)) → count ≡ length (unsigned_bytes contents) → size ≡ capped (count + contents) → size ≡ capped (length (body_bytes body))
+body_sized body contents count size c n e = behind_sized (code_bytes body) contents count size c n e
 
 pub segment_sized : (segment : Segment) (memory offset bytes size : ℕ) → memory ≡ length (unsigned_bytes segment.memory) → offset ≡ length (signed_bytes segment.offset) → bytes ≡ capped (length (text_bytes segment.bytes)) → size ≡ capped (memory + offset + 2 + bytes) → size ≡ capped (length (segment_bytes segment))
 segment_sized segment memory offset bytes size m o b e =
@@ -165,3 +181,18 @@ segment_sized segment memory offset bytes size m o b e =
 
 pub custom_sized : (custom : Custom) (name size : ℕ) → name ≡ capped (length (text_bytes custom.name)) → size ≡ capped (name + length custom.bytes) → size ≡ capped (length (custom_contents custom))
 custom_sized custom name size n e = omega (arith, n, e, length-append (text_bytes custom.name) custom.bytes)
+
+pub custom_section_sized : (custom : Custom) (contents size : ℕ) → contents ≡ capped (length (custom_contents custom)) → size ≡ capped (1 + length (unsigned_bytes contents) + contents) → size ≡ capped (length (custom_bytes custom))
+custom_section_sized custom contents size c e =
+    let text : capped (length (unsigned_bytes contents) + contents) ≡ capped (length (text_bytes (custom_contents custom))) = behind_sized (custom_contents custom) contents (length (unsigned_bytes contents)) _ c refl refl in
+    omega (arith, text, e)
+
+-- ---- sections
+
+pub section_absent : {A : Type 0} (part : A → List ℕ) (id : ℕ) (xs : List A) → length xs ≡ 0 → length (section_bytes id part xs) ≡ 0
+section_absent part id [] h = refl
+section_absent part id (x ∷ xs) h = absurd (omega arith)
+
+pub section_sized : {A : Type 0} (part : A → List ℕ) (id : ℕ) (xs : List A) (size : ℕ) → 0 < length xs → size ≡ length (vector_bytes part xs) → length (section_bytes id part xs) ≡ 1 + length (unsigned_bytes size) + size
+section_sized part id [] size h e = absurd (omega arith)
+section_sized part id (x ∷ xs) size h e = rw e (omega (arith, length-append (unsigned_bytes (length (vector_bytes part (x ∷ xs)))) (vector_bytes part (x ∷ xs))))

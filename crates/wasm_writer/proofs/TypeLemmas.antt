@@ -4,7 +4,7 @@ use Rattle.std.proofs.lemmas.List.{length-append}
 use Rattle.wasm_tree.specs.declared.module.FuncType.{FuncType}
 use Rattle.wasm_tree.specs.Spelled.{Joined, Index, Vector, Type_of_value, Type_of_function, Bounds}
 use Rattle.wasm_writer.specs.Spelling.{unsigned_bytes, vector_bytes, value_type_bytes, function_type_bytes, bounds_bytes}
-use Rattle.wasm_writer.proofs.Begins.{value_type_begins}
+use Rattle.wasm_writer.proofs.Nonempty.{value_type_nonempty}
 use Rattle.wasm_writer.proofs.Parts.{joined, begins, vector_count}
 
 pub function_type_spelled : (type : FuncType) → Vector Type_of_value type.params (vector_bytes value_type_bytes type.params) → Vector Type_of_value type.results (vector_bytes value_type_bytes type.results) → Type_of_function type (function_type_bytes type)
@@ -25,9 +25,9 @@ function_type_sizes type h =
     let params : length (vector_bytes value_type_bytes type.params) < 2 ^ 32 = omega (arith, whole) in
     let results : length (vector_bytes value_type_bytes type.results) < 2 ^ 32 = omega (arith, whole) in
     record {
-      params = vector_count value_type_bytes type.params value_type_begins params;
+      params = vector_count value_type_bytes type.params value_type_nonempty params;
       params_sized = params;
-      results = vector_count value_type_bytes type.results value_type_begins results;
+      results = vector_count value_type_bytes type.results value_type_nonempty results;
       results_sized = results;
     }
 

@@ -46,8 +46,8 @@ abbrev pub run_bytes : ScalarRun → List ℕ
 run_bytes run = unsigned_bytes run.count ++ scalar_bytes run.kind
 
 -- a count, and the kind of as many scalars
-abbrev pub Spelled_count : ScalarRun → List ℕ → Type 0
-Spelled_count run = Joined (Index run.count) (Scalar_kind run.kind)
+abbrev pub Spelled_scalar_run : ScalarRun → List ℕ → Type 0
+Spelled_scalar_run run = Joined (Index run.count) (Scalar_kind run.kind)
 
 abbrev pub shape_bytes : List Scalar → List ℕ
 shape_bytes shape = vector_bytes run_bytes (runs_of shape)

@@ -1,6 +1,4 @@
 pub mod Description
-pub mod Open
-pub mod Sample
+pub mod SectionSizes
 pub mod Size
 pub mod Spelling
-pub mod Writable

@@ -18,10 +18,12 @@ use Rattle.wasm_tree.specs.declared.module.Segment.{Segment}
 use Rattle.wasm_tree.specs.declared.module.Custom.{Custom}
 use Rattle.wasm_tree.specs.declared.module.Module.{Module}
 use Rattle.wasm_tree.specs.declared.instr.MemArg.{MemArg}
+use Rattle.wasm_tree.specs.declared.instr.LabelTable.{LabelTable}
 use Rattle.wasm_tree.specs.declared.instr.Instr.{Instr}
 use Rattle.wasm_tree.specs.declared.instr.Instr.TheVariants as instr
-use Rattle.wasm_tree.specs.Opcode.{load_opcode, store_opcode, test_opcode, compare_opcode, unary_opcode, binary_opcode, convert_opcode}
-use Rattle.wasm_tree.specs.Spelled.{type_byte, result_byte, mutable_byte, header, IsConstant, IsClosed, count_of_locals, most_locals, sorted_customs}
+use Rattle.wasm_tree.specs.Opcode.{opcode_of}
+use Rattle.wasm_tree.specs.Control.{IsClosed}
+use Rattle.wasm_tree.specs.Spelled.{type_byte, result_byte, mutable_byte, header, IsConstant, count_of_locals, most_locals, sorted_customs}
 
 -- ---- values (5.2)
 
@@ -82,39 +84,35 @@ memory_bytes limits = bounds_bytes limits.min limits.max
 
 -- ---- instructions (5.4)
 
-abbrev pub place_bytes : MemArg → List ℕ
-place_bytes place = unsigned_bytes place.align ++ unsigned_bytes place.offset
+abbrev pub memory_argument_bytes : MemArg → List ℕ
+memory_argument_bytes place = unsigned_bytes place.align ++ unsigned_bytes place.offset
+
+abbrev pub table_bytes : LabelTable → List ℕ
+table_bytes table = vector_bytes unsigned_bytes table.labels ++ unsigned_bytes table.other
+
+-- what stands behind the instruction's opcode
+abbrev pub immediate_bytes : Instr → List ℕ
+immediate_bytes (instr.Block result) = result_byte result ∷ []
+immediate_bytes (instr.Loop result) = result_byte result ∷ []
+immediate_bytes (instr.If result) = result_byte result ∷ []
+immediate_bytes (instr.Br label) = unsigned_bytes label
+immediate_bytes (instr.BrIf label) = unsigned_bytes label
+immediate_bytes (instr.BrTable table) = table_bytes table
+immediate_bytes (instr.Call function) = unsigned_bytes function
+immediate_bytes (instr.LocalGet local) = unsigned_bytes local
+immediate_bytes (instr.LocalSet local) = unsigned_bytes local
+immediate_bytes (instr.LocalTee local) = unsigned_bytes local
+immediate_bytes (instr.GlobalGet global) = unsigned_bytes global
+immediate_bytes (instr.GlobalSet global) = unsigned_bytes global
+immediate_bytes (instr.Load op place) = memory_argument_bytes place
+immediate_bytes (instr.Store op place) = memory_argument_bytes place
+immediate_bytes instr.MemorySize = 0x00 ∷ []
+immediate_bytes (instr.I32Const value) = signed_bytes value
+immediate_bytes (instr.I64Const value) = signed_bytes value
+immediate_bytes _ = []
 
 abbrev pub instruction_bytes : Instr → List ℕ
-instruction_bytes instr.Unreachable = 0x00 ∷ []
-instruction_bytes instr.Nop = 0x01 ∷ []
-instruction_bytes (instr.Block result) = 0x02 ∷ result_byte result ∷ []
-instruction_bytes (instr.Loop result) = 0x03 ∷ result_byte result ∷ []
-instruction_bytes (instr.If result) = 0x04 ∷ result_byte result ∷ []
-instruction_bytes instr.Else = 0x05 ∷ []
-instruction_bytes instr.End = 0x0B ∷ []
-instruction_bytes (instr.Br label) = 0x0C ∷ unsigned_bytes label
-instruction_bytes (instr.BrIf label) = 0x0D ∷ unsigned_bytes label
-instruction_bytes (instr.BrTable labels other) = 0x0E ∷ (vector_bytes unsigned_bytes labels ++ unsigned_bytes other)
-instruction_bytes instr.Return = 0x0F ∷ []
-instruction_bytes (instr.Call function) = 0x10 ∷ unsigned_bytes function
-instruction_bytes instr.Drop = 0x1A ∷ []
-instruction_bytes instr.Select = 0x1B ∷ []
-instruction_bytes (instr.LocalGet local) = 0x20 ∷ unsigned_bytes local
-instruction_bytes (instr.LocalSet local) = 0x21 ∷ unsigned_bytes local
-instruction_bytes (instr.LocalTee local) = 0x22 ∷ unsigned_bytes local
-instruction_bytes (instr.GlobalGet global) = 0x23 ∷ unsigned_bytes global
-instruction_bytes (instr.GlobalSet global) = 0x24 ∷ unsigned_bytes global
-instruction_bytes (instr.Load op place) = load_opcode op ∷ place_bytes place
-instruction_bytes (instr.Store op place) = store_opcode op ∷ place_bytes place
-instruction_bytes instr.MemorySize = 0x3F ∷ 0x00 ∷ []
-instruction_bytes (instr.I32Const value) = 0x41 ∷ signed_bytes value
-instruction_bytes (instr.I64Const value) = 0x42 ∷ signed_bytes value
-instruction_bytes (instr.Test type) = test_opcode type ∷ []
-instruction_bytes (instr.Compare type op) = compare_opcode type op ∷ []
-instruction_bytes (instr.Unary type op) = unary_opcode type op ∷ []
-instruction_bytes (instr.Binary type op) = binary_opcode type op ∷ []
-instruction_bytes (instr.Convert op) = convert_opcode op ∷ []
+instruction_bytes i = opcode_of i ∷ immediate_bytes i
 
 -- ---- modules (5.5)
 
@@ -173,9 +171,8 @@ spelling m =
     ++ section_bytes 11 segment_bytes m.segments
     ++ flat_map custom_bytes m.customs
 
--- what has a spelling: the contents of each section are below 2 ^ 32 bytes, as their size is a number of 32
--- bits, and what the format asks of the parts holds
-pub record IsWritable (m : Module) : Type 0 where
+-- the contents of the sections other than custom ones are below 2 ^ 32 bytes, as their size is a number of 32 bits
+pub record ListsFit (m : Module) : Type 0 where
   pub types : length (vector_bytes function_type_bytes m.types) < 2 ^ 32
   pub imports : length (vector_bytes import_bytes m.imports) < 2 ^ 32
   pub functions : length (vector_bytes unsigned_bytes m.functions) < 2 ^ 32
@@ -184,9 +181,17 @@ pub record IsWritable (m : Module) : Type 0 where
   pub exports : length (vector_bytes export_bytes m.exports) < 2 ^ 32
   pub codes : length (vector_bytes body_bytes m.codes) < 2 ^ 32
   pub segments : length (vector_bytes segment_bytes m.segments) < 2 ^ 32
+
+-- a body declares few enough locals, and its code ends each sequence that it opens
+pub record IsFormed (body : FuncBody) : Type 0 where
+  pub few : count_of_locals body.locals ≤ most_locals
+  pub closed : IsClosed body.code
+
+-- what has a spelling: each section's size is a number of 32 bits, and what the format asks of the parts holds
+pub record IsWritable (m : Module) : Type 0 where
+  pub lists : ListsFit m
   pub customs : All (λ custom. length (custom_contents custom) < 2 ^ 32) m.customs
   pub constant : All (λ global. IsConstant global.value) m.globals
-  pub locals : All (λ body. count_of_locals body.locals ≤ most_locals) m.codes
-  pub closed : All (λ body. IsClosed [] body.code) m.codes
+  pub formed : All IsFormed m.codes
   pub sorted : m.customs ≡ sorted_customs m.customs
   pub bodies : length m.functions ≡ length m.codes

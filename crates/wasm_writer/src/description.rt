@@ -4,11 +4,11 @@ ghost use Rattle.wasm_tree.specs.declared.interface.Interface.TheVariants.{Block
 ghost use Rattle.wasm_tree.specs.Spelled.{Each, Signed};
 ghost use Rattle.wasm_tree.specs.Section.{flow_byte, kind_byte, slots_of, Scalar_kind, Runs, Parameter, Spelled_slot, Spelled_interface, Spelled_section};
 ghost use Rattle.wasm_writer.specs.Spelling.{signed_bytes};
-ghost use Rattle.wasm_writer.specs.Description.{is_same_kind, runs_of, scalar_bytes, run_bytes, Spelled_count, shape_bytes, parameter_bytes, slot_bytes, interface_bytes, section_contents, IsDescribable, most_bytes};
+ghost use Rattle.wasm_writer.specs.Description.{is_same_kind, runs_of, scalar_bytes, run_bytes, Spelled_scalar_run, shape_bytes, parameter_bytes, slot_bytes, interface_bytes, section_contents, IsDescribable, most_bytes};
 
+use crate::encode::put_byte;
 use crate::entry::put_name;
-use crate::instruction::put_byte;
-use crate::number::{put_indexed, put_signed, put_unsigned};
+use crate::number::{put_indexed, put_narrow, put_unsigned};
 use cm_base::{Bytes, Flow, HostEnd, Items, Kind, NoMemory, Range, Scalar};
 use std::alloc::Global;
 use wasm_tree::Interface;
@@ -87,7 +87,7 @@ fn put_scalar(out: &mut Vec<u8>, kind: Scalar) -> Result<(), NoMemory>
 #[tactic(auto, using(crate::proofs::Parts::joined))]
 fn put_run(out: &mut Vec<u8>, run: ScalarRun) -> Result<(), NoMemory>
     ensures appended { OnOk result (out.new.items ≡ out.old.items ++ run_bytes run) }
-    ensures spelled { OnOk result (Spelled_count run (run_bytes run)) }
+    ensures spelled { OnOk result (Spelled_scalar_run run (run_bytes run)) }
 {
     put_unsigned(out, run.count)?;
     put_scalar(out, run.kind)
@@ -95,7 +95,7 @@ fn put_run(out: &mut Vec<u8>, run: ScalarRun) -> Result<(), NoMemory>
 
 fn put_each_run(out: &mut Vec<u8>, runs: &[ScalarRun]) -> Result<(), NoMemory>
     ensures appended { OnOk result (out.new.items ≡ out.old.items ++ flat_map run_bytes runs.now) }
-    ensures spelled { OnOk result (Each Spelled_count runs.now (flat_map run_bytes runs.now)) }
+    ensures spelled { OnOk result (Each Spelled_scalar_run runs.now (flat_map run_bytes runs.now)) }
 {
     for run in runs {
         put_run(out, *run)?;
@@ -112,15 +112,6 @@ fn put_shape(out: &mut Vec<u8>, shape: &[Scalar]) -> Result<(), NoMemory>
     let runs = runs_in(*out.allocator(), shape)?;
     put_unsigned(out, runs.len() as u32)?;
     put_each_run(out, &runs)
-}
-
-/// Appends a signed number of 32 bits.
-fn put_narrow(out: &mut Vec<u8>, number: i32) -> Result<(), NoMemory>
-    ensures appended { OnOk result (out.new.items ≡ out.old.items ++ signed_bytes number) }
-    ensures spelled { OnOk result (Signed 32 number (signed_bytes number)) }
-{
-    put_signed(out, i64::from(number))?;
-    Ok(())
 }
 
 #[tactic(auto, using(crate::proofs::DescriptionLemmas::range_spelled))]
@@ -180,8 +171,7 @@ fn put_blocks(out: &mut Vec<u8>, block: u32, latency: u32) -> Result<(), NoMemor
 {
     out.push(2)?;
     put_unsigned(out, latency)?;
-    put_unsigned(out, block)?;
-    Ok(())
+    put_unsigned(out, block)
 }
 
 fn put_interface(out: &mut Vec<u8>, interface: Interface, latency: u32) -> Result<(), NoMemory>

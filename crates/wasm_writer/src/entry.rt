@@ -1,11 +1,12 @@
 ghost use Rattle.std.specs.Prelude.{◌≡◌, ◌<◌, ◌≤◌, ◌^◌, ◌++◌, ◌∷◌, [], length, OnOk};
-ghost use Rattle.wasm_tree.specs.Spelled.{Name as SpellsName, Import_kind, Export_kind, Memory, Begins, mutable_byte};
-ghost use Rattle.wasm_writer.specs.Spelling.{text_bytes, memory_bytes, import_kind_bytes, export_kind_bytes};
+ghost use Rattle.wasm_tree.specs.Spelled.{Utf8Text, Import_kind, Export_kind, Memory, Begins, mutable_byte};
+ghost use Rattle.wasm_writer.specs.Size.{capped};
+ghost use Rattle.wasm_writer.specs.Spelling.{text_bytes, memory_bytes, import_kind_bytes, export_kind_bytes, code_bytes};
 
+use crate::encode::{Encode, put_each, put_text, put_vector, size_of_each, size_of_vector};
 use crate::number::{put_indexed, put_signed, put_unsigned, size_of_signed, size_of_unsigned};
-use crate::part::{Part, put_each, put_text, put_vector, size_of_each, size_of_vector};
 use crate::size::{add, size_of_text};
-use crate::types::{byte_of_type, put_bounds, size_of_bounds};
+use crate::types::{put_bounds, size_of_bounds};
 use cm_base::{Name, NoMemory};
 use wasm_tree::{
     ExportEntry, ExportKind, FuncBody, GlobalVar, Import, ImportKind, Limits, LocalRun, Segment,
@@ -16,10 +17,9 @@ use wasm_tree::{
 pub fn put_name(out: &mut Vec<u8>, name: &Name) -> Result<(), NoMemory>
     requires { length name.now < 2 ^ 32 }
     ensures appended { OnOk result (out.new.items ≡ out.old.items ++ text_bytes name.now) }
-    ensures spelled { OnOk result (SpellsName name.now (text_bytes name.now)) }
+    ensures spelled { OnOk result (Utf8Text name.now (text_bytes name.now)) }
 {
-    put_text(out, name.as_bytes())?;
-    Ok(())
+    put_text(out, name.as_bytes())
 }
 
 #[tactic(auto, using(crate::proofs::Parts::begins))]
@@ -28,8 +28,7 @@ fn put_memory_kind(out: &mut Vec<u8>, limits: Limits) -> Result<(), NoMemory>
     ensures spelled { OnOk result (Begins 0x02 (Memory limits) (0x02 ∷ memory_bytes limits)) }
 {
     out.push(0x02)?;
-    put_bounds(out, limits.min, limits.max)?;
-    Ok(())
+    put_bounds(out, limits.min, limits.max)
 }
 
 fn put_import_kind(out: &mut Vec<u8>, kind: ImportKind) -> Result<(), NoMemory>
@@ -52,22 +51,21 @@ fn size_of_import_kind(kind: ImportKind) -> u64
     }
 }
 
-impl Part for Import {
+impl Encode for Import {
     ghost use Rattle.wasm_tree.specs.Spelled.{Imported};
     ghost use Rattle.wasm_writer.specs.Spelling.{import_bytes};
 
-    ghost written = { import_bytes };
+    ghost shortest = { import_bytes };
 
-    ghost allowed = { Imported };
+    ghost spells = { Imported };
 
-    ghost formed = { λ _. Unit {0} };
+    ghost well_formed = { λ _. Unit {0} };
 
     #[tactic(auto, using(crate::proofs::EntryLemmas::import_spelled, crate::proofs::EntryLemmas::import_sizes))]
-    fn put(&self, out: &mut Vec<u8>) -> Result<(), NoMemory> {
+    fn encode(&self, out: &mut Vec<u8>) -> Result<(), NoMemory> {
         put_name(out, &self.module)?;
         put_name(out, &self.name)?;
-        put_import_kind(out, self.kind)?;
-        Ok(())
+        put_import_kind(out, self.kind)
     }
 
     #[tactic(auto, using(crate::proofs::Sizes::import_sized))]
@@ -100,21 +98,20 @@ fn size_of_export_kind(kind: ExportKind) -> u64
     }
 }
 
-impl Part for ExportEntry {
+impl Encode for ExportEntry {
     ghost use Rattle.wasm_tree.specs.Spelled.{Exported};
     ghost use Rattle.wasm_writer.specs.Spelling.{export_bytes};
 
-    ghost written = { export_bytes };
+    ghost shortest = { export_bytes };
 
-    ghost allowed = { Exported };
+    ghost spells = { Exported };
 
-    ghost formed = { λ _. Unit {0} };
+    ghost well_formed = { λ _. Unit {0} };
 
     #[tactic(auto, using(crate::proofs::EntryLemmas::export_spelled, crate::proofs::EntryLemmas::export_sizes))]
-    fn put(&self, out: &mut Vec<u8>) -> Result<(), NoMemory> {
+    fn encode(&self, out: &mut Vec<u8>) -> Result<(), NoMemory> {
         put_name(out, &self.name)?;
-        put_export_kind(out, self.kind)?;
-        Ok(())
+        put_export_kind(out, self.kind)
     }
 
     #[tactic(auto, using(crate::proofs::Sizes::export_sized))]
@@ -132,21 +129,21 @@ fn byte_of_mutable(mutable: bool) -> u8
     if mutable { 0x01 } else { 0x00 }
 }
 
-impl Part for GlobalVar {
+impl Encode for GlobalVar {
     ghost use Rattle.wasm_tree.specs.Spelled.{Global, IsConstant};
     ghost use Rattle.wasm_writer.specs.Spelling.{global_bytes};
 
-    ghost written = { global_bytes };
+    ghost shortest = { global_bytes };
 
-    ghost allowed = { Global };
+    ghost spells = { Global };
 
-    ghost formed = { λ global. IsConstant global.value };
+    ghost well_formed = { λ global. IsConstant global.value };
 
     #[tactic(auto, using(crate::proofs::EntryLemmas::global_spelled, crate::proofs::EntryLemmas::global_sizes))]
-    fn put(&self, out: &mut Vec<u8>) -> Result<(), NoMemory> {
-        out.push(byte_of_type(self.ty))?;
+    fn encode(&self, out: &mut Vec<u8>) -> Result<(), NoMemory> {
+        out.push(self.ty.byte())?;
         out.push(byte_of_mutable(self.mutable))?;
-        self.value.put(out)?;
+        self.value.encode(out)?;
         out.push(0x0B)?;
         Ok(())
     }
@@ -157,20 +154,20 @@ impl Part for GlobalVar {
     }
 }
 
-impl Part for LocalRun {
+impl Encode for LocalRun {
     ghost use Rattle.wasm_tree.specs.Spelled.{Locals};
     ghost use Rattle.wasm_writer.specs.Spelling.{locals_bytes};
 
-    ghost written = { locals_bytes };
+    ghost shortest = { locals_bytes };
 
-    ghost allowed = { Locals };
+    ghost spells = { Locals };
 
-    ghost formed = { λ _. Unit {0} };
+    ghost well_formed = { λ _. Unit {0} };
 
     #[tactic(auto, using(crate::proofs::EntryLemmas::locals_spelled))]
-    fn put(&self, out: &mut Vec<u8>) -> Result<(), NoMemory> {
+    fn encode(&self, out: &mut Vec<u8>) -> Result<(), NoMemory> {
         put_unsigned(out, self.count)?;
-        out.push(byte_of_type(self.ty))?;
+        out.push(self.ty.byte())?;
         Ok(())
     }
 
@@ -180,54 +177,58 @@ impl Part for LocalRun {
     }
 }
 
-impl Part for FuncBody {
+/// The size of a body without its own size.
+#[tactic(auto, using(crate::proofs::Sizes::code_sized))]
+fn size_of_code(body: &FuncBody) -> u64
+    ensures { result ≡ capped (length (code_bytes body.now)) }
+{
+    add(
+        size_of_vector(&body.locals),
+        size_of_each(body.code.as_slice()),
+    )
+}
+
+impl Encode for FuncBody {
     ghost use Rattle.wasm_tree.specs.Spelled.{Body};
-    ghost use Rattle.wasm_writer.specs.Spelling.{body_bytes};
-    ghost use Rattle.wasm_writer.specs.Writable.{IsFormed};
+    ghost use Rattle.wasm_writer.specs.Spelling.{body_bytes, IsFormed};
 
-    ghost written = { body_bytes };
+    ghost shortest = { body_bytes };
 
-    ghost allowed = { Body };
+    ghost spells = { Body };
 
-    ghost formed = { IsFormed };
+    ghost well_formed = { IsFormed };
 
     #[tactic(auto, using(crate::proofs::EntryLemmas::body_spelled, crate::proofs::EntryLemmas::body_sizes))]
-    fn put(&self, out: &mut Vec<u8>) -> Result<(), NoMemory> {
-        let mut contents = Vec::new(*out.allocator());
-        put_vector(&mut contents, self.locals.as_slice())?;
-        put_each(&mut contents, self.code.as_slice())?;
-        put_text(out, &contents)?;
-        Ok(())
+    fn encode(&self, out: &mut Vec<u8>) -> Result<(), NoMemory> {
+        put_unsigned(out, size_of_code(self) as u32)?;
+        put_vector(out, &self.locals)?;
+        put_each(out, self.code.as_slice())
     }
 
     #[tactic(auto, using(crate::proofs::Sizes::body_sized))]
     fn size(&self) -> u64 {
-        let contents = add(
-            size_of_vector(self.locals.as_slice()),
-            size_of_each(self.code.as_slice()),
-        );
+        let contents = size_of_code(self);
         add(size_of_unsigned(contents), contents)
     }
 }
 
-impl Part for Segment {
+impl Encode for Segment {
     ghost use Rattle.wasm_tree.specs.Spelled.{Data};
     ghost use Rattle.wasm_writer.specs.Spelling.{segment_bytes};
 
-    ghost written = { segment_bytes };
+    ghost shortest = { segment_bytes };
 
-    ghost allowed = { Data };
+    ghost spells = { Data };
 
-    ghost formed = { λ _. Unit {0} };
+    ghost well_formed = { λ _. Unit {0} };
 
     #[tactic(auto, using(crate::proofs::EntryLemmas::segment_spelled, crate::proofs::EntryLemmas::segment_sizes))]
-    fn put(&self, out: &mut Vec<u8>) -> Result<(), NoMemory> {
+    fn encode(&self, out: &mut Vec<u8>) -> Result<(), NoMemory> {
         put_unsigned(out, self.memory)?;
         out.push(0x41)?;
         put_signed(out, i64::from(self.offset))?;
         out.push(0x0B)?;
-        put_text(out, self.bytes.as_slice())?;
-        Ok(())
+        put_text(out, self.bytes.as_slice())
     }
 
     #[tactic(auto, using(crate::proofs::Sizes::segment_sized))]

@@ -1,192 +1,122 @@
 ghost use Rattle.std.specs.Prelude.{◌≡◌, ◌+◌, ◌<◌, ◌≤◌, ◌^◌, ◌++◌, ◌∷◌, [], length, OnOk, Option};
-ghost use Rattle.wasm_tree.specs.Spelled.{Place, Begins, Joined, Vector, Index, Signed, result_byte};
+ghost use Rattle.wasm_tree.specs.Spelled.{MemoryArgument, Immediates, Joined, Vector, Index, result_byte};
 ghost use Rattle.wasm_writer.specs.Size.{capped};
-ghost use Rattle.wasm_writer.specs.Spelling.{unsigned_bytes, signed_bytes, vector_bytes, place_bytes};
+ghost use Rattle.wasm_writer.specs.Spelling.{memory_argument_bytes, table_bytes, immediate_bytes};
 
-use crate::number::{put_indexed, put_signed, put_unsigned, size_of_signed, size_of_unsigned};
-use crate::opcode::{
-    opcode_of_binary, opcode_of_compare, opcode_of_convert, opcode_of_load, opcode_of_store,
-    opcode_of_test, opcode_of_unary,
-};
-use crate::part::{Part, put_vector, size_of_vector};
+use crate::encode::{Encode, put_byte, put_vector, size_of_vector};
+use crate::number::{put_narrow, put_signed, put_unsigned, size_of_signed, size_of_unsigned};
 use crate::size::add;
-use crate::types::byte_of_type;
 use cm_base::NoMemory;
-use wasm_tree::{Instr, MemArg, ValType};
+use wasm_tree::{Instr, LabelTable, MemArg, ValType};
 
 fn byte_of_result(result_type: Option<ValType>) -> u8
     ensures { result ≡ result_byte result_type }
 {
     match result_type {
         None => 0x40,
-        Some(ty) => byte_of_type(ty),
+        Some(ty) => ty.byte(),
     }
 }
 
-/// Appends a byte.
-pub fn put_byte(out: &mut Vec<u8>, byte: u8) -> Result<(), NoMemory>
-    ensures { OnOk result (out.new.items ≡ out.old.items ++ byte ∷ []) }
+#[tactic(auto, using(crate::proofs::Parts::joined))]
+fn put_memory_argument(out: &mut Vec<u8>, place: MemArg) -> Result<(), NoMemory>
+    ensures appended { OnOk result (out.new.items ≡ out.old.items ++ memory_argument_bytes place) }
+    ensures spelled { OnOk result (MemoryArgument place (memory_argument_bytes place)) }
 {
-    out.push(byte)?;
-    Ok(())
-}
-
-fn put_pair(out: &mut Vec<u8>, first: u8, second: u8) -> Result<(), NoMemory>
-    ensures { OnOk result (out.new.items ≡ out.old.items ++ first ∷ second ∷ []) }
-{
-    out.push(first)?;
-    out.push(second)?;
-    Ok(())
-}
-
-/// Appends an opcode and where it loads from or stores to.
-#[tactic(auto, using(crate::proofs::Parts::begins, crate::proofs::Parts::joined))]
-fn put_placed(out: &mut Vec<u8>, opcode: u8, place: MemArg) -> Result<(), NoMemory>
-    ensures appended { OnOk result (out.new.items ≡ out.old.items ++ opcode ∷ place_bytes place) }
-    ensures spelled { OnOk result (Begins opcode (Place place) (opcode ∷ place_bytes place)) }
-{
-    out.push(opcode)?;
     put_unsigned(out, place.align)?;
-    put_unsigned(out, place.offset)?;
-    Ok(())
+    put_unsigned(out, place.offset)
 }
 
-/// Appends a signed number of 32 bits behind its opcode.
-#[tactic(auto, using(crate::proofs::Parts::begins))]
-fn put_i32(out: &mut Vec<u8>, value: i32) -> Result<(), NoMemory>
-    ensures appended { OnOk result (out.new.items ≡ out.old.items ++ 0x41 ∷ signed_bytes value) }
-    ensures spelled { OnOk result (Begins 0x41 (Signed 32 value) (0x41 ∷ signed_bytes value)) }
+#[tactic(auto, using(crate::proofs::Sizes::memory_argument_sized))]
+fn size_of_memory_argument(place: MemArg) -> u64
+    ensures exact { result ≡ length (memory_argument_bytes place) }
+    ensures few { result ≤ 10 }
 {
-    out.push(0x41)?;
-    put_signed(out, i64::from(value))?;
-    Ok(())
+    size_of_unsigned(u64::from(place.align)) + size_of_unsigned(u64::from(place.offset))
 }
 
-/// Appends a signed number of 64 bits behind its opcode.
-#[tactic(auto, using(crate::proofs::Parts::begins))]
-fn put_i64(out: &mut Vec<u8>, value: i64) -> Result<(), NoMemory>
-    ensures appended { OnOk result (out.new.items ≡ out.old.items ++ 0x42 ∷ signed_bytes value) }
-    ensures spelled { OnOk result (Begins 0x42 (Signed 64 value) (0x42 ∷ signed_bytes value)) }
+/// Appends the labels of a `br_table`.
+#[tactic(auto, using(crate::proofs::Parts::joined, crate::proofs::InstructionLemmas::table_sizes))]
+fn put_table(out: &mut Vec<u8>, table: &LabelTable) -> Result<(), NoMemory>
+    requires { length (table_bytes table.now) < 2 ^ 32 }
+    ensures appended { OnOk result (out.new.items ≡ out.old.items ++ table_bytes table.now) }
+    ensures spelled { OnOk result (Joined (Vector Index table.now.labels) (Index table.now.other) (table_bytes table.now)) }
 {
-    out.push(0x42)?;
-    put_signed(out, value)?;
-    Ok(())
+    put_vector(out, &table.labels)?;
+    put_unsigned(out, table.other)
 }
 
-/// Appends the labels of a `br_table` behind its opcode.
-#[tactic(auto, using(crate::proofs::Parts::begins, crate::proofs::Parts::joined))]
-fn put_table(out: &mut Vec<u8>, labels: &[u32], other: u32) -> Result<(), NoMemory>
-    requires counted { length labels.now < 2 ^ 32 }
-    requires sized { length (vector_bytes unsigned_bytes labels.now) < 2 ^ 32 }
-    ensures appended { OnOk result (out.new.items ≡ out.old.items ++ 0x0E ∷ (vector_bytes unsigned_bytes labels.now ++ unsigned_bytes other)) }
-    ensures spelled { OnOk result (Begins 0x0E (Joined (Vector Index labels.now) (Index other)) (0x0E ∷ (vector_bytes unsigned_bytes labels.now ++ unsigned_bytes other))) }
-{
-    out.push(0x0E)?;
-    put_vector(out, labels)?;
-    put_unsigned(out, other)?;
-    Ok(())
-}
-
-/// The size of an opcode and an index.
-fn size_of_indexed(index: u32) -> u64
-    ensures exact { result ≡ 1 + length (unsigned_bytes index) }
-    ensures few { result ≤ 6 }
-{
-    1 + size_of_unsigned(u64::from(index))
-}
-
-/// The size of an opcode and where it loads from or stores to.
-#[tactic(auto, using(crate::proofs::Sizes::place_sized))]
-fn size_of_placed(place: MemArg) -> u64
-    ensures exact { result ≡ 1 + length (place_bytes place) }
-    ensures few { result ≤ 11 }
-{
-    1 + size_of_unsigned(u64::from(place.align)) + size_of_unsigned(u64::from(place.offset))
-}
-
-/// The size of the labels of a `br_table` behind its opcode.
 #[tactic(auto, using(crate::proofs::Sizes::table_sized))]
-fn size_of_table(labels: &[u32], other: u32) -> u64
-    ensures { result ≡ capped (1 + length (vector_bytes unsigned_bytes labels.now ++ unsigned_bytes other)) }
+fn size_of_table(table: &LabelTable) -> u64
+    ensures { result ≡ capped (length (table_bytes table.now)) }
 {
-    add(size_of_vector(labels), size_of_indexed(other))
+    let other = size_of_unsigned(u64::from(table.other));
+    add(size_of_vector(&table.labels), other)
 }
 
-impl Part for Instr {
+/// Appends what stands behind the instruction's opcode.
+fn put_immediates(out: &mut Vec<u8>, instr: &Instr) -> Result<(), NoMemory>
+    requires { length (immediate_bytes instr.now) < 2 ^ 32 }
+    ensures appended { OnOk result (out.new.items ≡ out.old.items ++ immediate_bytes instr.now) }
+    ensures spelled { OnOk result (Immediates instr.now (immediate_bytes instr.now)) }
+{
+    match instr {
+        Instr::Block(ty) | Instr::Loop(ty) | Instr::If(ty) => put_byte(out, byte_of_result(*ty)),
+        Instr::Br(index)
+        | Instr::BrIf(index)
+        | Instr::Call(index)
+        | Instr::LocalGet(index)
+        | Instr::LocalSet(index)
+        | Instr::LocalTee(index)
+        | Instr::GlobalGet(index)
+        | Instr::GlobalSet(index) => put_unsigned(out, *index),
+        Instr::BrTable(table) => put_table(out, table.get()),
+        Instr::Load(_, place) | Instr::Store(_, place) => put_memory_argument(out, *place),
+        Instr::MemorySize => put_byte(out, 0x00),
+        Instr::I32Const(value) => put_narrow(out, *value),
+        Instr::I64Const(value) => put_signed(out, *value),
+        _ => Ok(()),
+    }
+}
+
+fn size_of_immediates(instr: &Instr) -> u64
+    ensures { result ≡ capped (length (immediate_bytes instr.now)) }
+{
+    match instr {
+        Instr::Block(_) | Instr::Loop(_) | Instr::If(_) | Instr::MemorySize => 1,
+        Instr::Br(index)
+        | Instr::BrIf(index)
+        | Instr::Call(index)
+        | Instr::LocalGet(index)
+        | Instr::LocalSet(index)
+        | Instr::LocalTee(index)
+        | Instr::GlobalGet(index)
+        | Instr::GlobalSet(index) => size_of_unsigned(u64::from(*index)),
+        Instr::BrTable(table) => size_of_table(table.get()),
+        Instr::Load(_, place) | Instr::Store(_, place) => size_of_memory_argument(*place),
+        Instr::I32Const(value) => size_of_signed(i64::from(*value)),
+        Instr::I64Const(value) => size_of_signed(*value),
+        _ => 0,
+    }
+}
+
+impl Encode for Instr {
     ghost use Rattle.wasm_tree.specs.Spelled.{Instruction};
     ghost use Rattle.wasm_writer.specs.Spelling.{instruction_bytes};
 
-    ghost written = { instruction_bytes };
+    ghost shortest = { instruction_bytes };
 
-    ghost allowed = { Instruction };
+    ghost spells = { Instruction };
 
-    ghost formed = { λ _. Unit {0} };
+    ghost well_formed = { λ _. Unit {0} };
 
-    fn put(&self, out: &mut Vec<u8>) -> Result<(), NoMemory> {
-        match self {
-            Instr::Unreachable => put_byte(out, 0x00),
-            Instr::Nop => put_byte(out, 0x01),
-            Instr::Block(result) => put_pair(out, 0x02, byte_of_result(*result)),
-            Instr::Loop(result) => put_pair(out, 0x03, byte_of_result(*result)),
-            Instr::If(result) => put_pair(out, 0x04, byte_of_result(*result)),
-            Instr::Else => put_byte(out, 0x05),
-            Instr::End => put_byte(out, 0x0B),
-            Instr::Br(label) => put_indexed(out, 0x0C, *label),
-            Instr::BrIf(label) => put_indexed(out, 0x0D, *label),
-            Instr::BrTable(labels, other) => put_table(out, labels.as_slice(), *other),
-            Instr::Return => put_byte(out, 0x0F),
-            Instr::Call(function) => put_indexed(out, 0x10, *function),
-            Instr::Drop => put_byte(out, 0x1A),
-            Instr::Select => put_byte(out, 0x1B),
-            Instr::LocalGet(local) => put_indexed(out, 0x20, *local),
-            Instr::LocalSet(local) => put_indexed(out, 0x21, *local),
-            Instr::LocalTee(local) => put_indexed(out, 0x22, *local),
-            Instr::GlobalGet(global) => put_indexed(out, 0x23, *global),
-            Instr::GlobalSet(global) => put_indexed(out, 0x24, *global),
-            Instr::Load(op, place) => put_placed(out, opcode_of_load(*op), *place),
-            Instr::Store(op, place) => put_placed(out, opcode_of_store(*op), *place),
-            Instr::MemorySize => put_pair(out, 0x3F, 0x00),
-            Instr::I32Const(value) => put_i32(out, *value),
-            Instr::I64Const(value) => put_i64(out, *value),
-            Instr::Test(ty) => put_byte(out, opcode_of_test(*ty)),
-            Instr::Compare(ty, op) => put_byte(out, opcode_of_compare(*ty, *op)),
-            Instr::Unary(ty, op) => put_byte(out, opcode_of_unary(*ty, *op)),
-            Instr::Binary(ty, op) => put_byte(out, opcode_of_binary(*ty, *op)),
-            Instr::Convert(op) => put_byte(out, opcode_of_convert(*op)),
-        }
+    #[tactic(auto, using(crate::proofs::Parts::begins))]
+    fn encode(&self, out: &mut Vec<u8>) -> Result<(), NoMemory> {
+        out.push(self.opcode())?;
+        put_immediates(out, self)
     }
 
     fn size(&self) -> u64 {
-        match self {
-            Instr::Unreachable => 1,
-            Instr::Nop => 1,
-            Instr::Block(_) => 2,
-            Instr::Loop(_) => 2,
-            Instr::If(_) => 2,
-            Instr::Else => 1,
-            Instr::End => 1,
-            Instr::Br(label) => size_of_indexed(*label),
-            Instr::BrIf(label) => size_of_indexed(*label),
-            Instr::BrTable(labels, other) => size_of_table(labels.as_slice(), *other),
-            Instr::Return => 1,
-            Instr::Call(function) => size_of_indexed(*function),
-            Instr::Drop => 1,
-            Instr::Select => 1,
-            Instr::LocalGet(local) => size_of_indexed(*local),
-            Instr::LocalSet(local) => size_of_indexed(*local),
-            Instr::LocalTee(local) => size_of_indexed(*local),
-            Instr::GlobalGet(global) => size_of_indexed(*global),
-            Instr::GlobalSet(global) => size_of_indexed(*global),
-            Instr::Load(_, place) => size_of_placed(*place),
-            Instr::Store(_, place) => size_of_placed(*place),
-            Instr::MemorySize => 2,
-            Instr::I32Const(value) => 1 + size_of_signed(i64::from(*value)),
-            Instr::I64Const(value) => 1 + size_of_signed(*value),
-            Instr::Test(_) => 1,
-            Instr::Compare(_, _) => 1,
-            Instr::Unary(_, _) => 1,
-            Instr::Binary(_, _) => 1,
-            Instr::Convert(_) => 1,
-        }
+        add(1, size_of_immediates(self))
     }
 }

@@ -1,23 +1,21 @@
 //! Writes a module of WebAssembly 1.0 in its shortest spelling: shortest numbers, no empty section, and the
 //! custom sections last. The layers above call `write_module`. Its bytes are `spelling` of `specs/Spelling`,
-//! which is a function of the module, and they spell the module as `Spelled` of `wasm_tree` says. What it
-//! asks of a module is `IsWritable`, and `is_writable` tests exactly that. `write_section` gives the contents
-//! of the custom section `cmajor`, which tells a host of the endpoints: `section_contents` of
-//! `specs/Description`. Two laws go with `write_module`: no spelling of a module is shorter
-//! (`spelling_is_shortest`), and a module that fewer than 2 ^ 32 bytes spell is writable
+//! which is a function of the module, and they spell the module as `Spelled` of `wasm_tree` says. The sizes of
+//! sections and bodies are counted first, so that each byte is written once, into a list that is reserved with
+//! the module's size. What it asks of a module is `IsWritable`, and `is_writable` tests exactly that.
+//! `write_section` gives the contents of the custom section `cmajor`, which tells a host of the endpoints:
+//! `section_contents` of `specs/Description`. Two laws go with `write_module`: no spelling of a module is
+//! shorter (`spelling_is_shortest`), and a module that fewer than 2 ^ 32 bytes spell is writable
 //! (`spelled_is_writable`).
 #![tactic(auto)]
 
-mod closed;
 mod description;
-#[cfg(test)]
-mod description_tests;
+mod encode;
 mod entry;
 mod instruction;
 mod laws;
 mod number;
-mod opcode;
-mod part;
+mod section_sizes;
 mod size;
 mod types;
 mod writable;
@@ -30,5 +28,3 @@ pub use writing::write_module;
 
 #[cfg(test)]
 mod tests;
-#[cfg(test)]
-mod writable_tests;

@@ -36,15 +36,22 @@ pub fn put_signed(out: &mut Vec<u8>, number: i64) -> Result<(), NoMemory>
     Ok(())
 }
 
-/// Appends an opcode or a kind, and an index.
+/// Appends a signed number of 32 bits.
+pub fn put_narrow(out: &mut Vec<u8>, number: i32) -> Result<(), NoMemory>
+    ensures appended { OnOk result (out.new.items ≡ out.old.items ++ signed_bytes number) }
+    ensures spelled { OnOk result (Signed 32 number (signed_bytes number)) }
+{
+    put_signed(out, i64::from(number))
+}
+
+/// Appends a kind and an index.
 #[tactic(auto, using(crate::proofs::Parts::begins))]
 pub fn put_indexed(out: &mut Vec<u8>, byte: u8, index: u32) -> Result<(), NoMemory>
     ensures appended { OnOk result (out.new.items ≡ out.old.items ++ byte ∷ unsigned_bytes index) }
     ensures spelled { OnOk result (Begins byte (Index index) (byte ∷ unsigned_bytes index)) }
 {
     out.push(byte)?;
-    put_unsigned(out, index)?;
-    Ok(())
+    put_unsigned(out, index)
 }
 
 /// How many bytes the shortest unsigned LEB128 of the number has; a number past 32 bits, which has none, is
@@ -79,7 +86,7 @@ fn magnitude(number: i64) -> u64
 }
 
 /// How many bytes the shortest signed LEB128 of the number has.
-#[tactic(auto, using(crate::proofs::Sizes::signed_size_as, crate::proofs::Sizes::signed_size_few, crate::proofs::Sizes::signed_size_more, crate::proofs::Sizes::signed_size_last))]
+#[tactic(auto, using(crate::proofs::Sizes::signed_size_as, crate::proofs::Sizes::signed_few, crate::proofs::Sizes::signed_size_more, crate::proofs::Sizes::signed_size_last))]
 pub fn size_of_signed(number: i64) -> u64
     ensures exact { result ≡ length (signed_bytes number) }
     ensures few { result ≤ 10 }

@@ -1,20 +1,22 @@
-ghost use Rattle.std.specs.Prelude.{◌≡◌, ◌∷◌, [], ◌≤◌, Some, true, pos, negsuc, codes, All, IfOk};
-ghost use Rattle.wasm_writer.specs.Spelling.{IsWritable};
-ghost use Rattle.wasm_writer.specs.Sample.{sample_instructions};
+ghost use Rattle.std.specs.Prelude.{◌≡◌, ◌<◌, ◌^◌, length, IfOk};
 
+use crate::description::write_section;
 use crate::number::{put_signed, put_unsigned};
+use crate::writable::is_writable;
 use crate::writing::write_module;
-use cm_base::{Items, Name, NoMemory};
+use cm_base::{Boxed, Bytes, Flow, HostEnd, Items, Kind, Name, NoMemory, Range, Scalar};
 use std::alloc::Global;
 use std::test::*;
 use wasm_tree::{
-    Code, Custom, Customs, ExportEntry, ExportKind, Exports, FuncBodies, FuncBody, FuncType,
-    FuncTypes, GlobalVar, Globals, Import, ImportKind, Imports, Instr, Limits, LoadOp, LocalRun,
-    MemArg, Module, Segment, Segments, ValType,
+    Code, Custom, ExportEntry, ExportKind, FuncBody, FuncType, GlobalVar, Import, ImportKind,
+    Instr, Interface, LabelTable, Limits, LoadOp, LocalRun, MemArg, Module, Segment, ValType,
 };
 
+// What a module without any part has.
+const EMPTY: [u8; 8] = [0x00, 0x61, 0x73, 0x6D, 0x01, 0x00, 0x00, 0x00];
+
 // Bytes that another assembler made, and that node's `WebAssembly.Module` accepts.
-const BYTES: [u8; 152] = [
+const SAMPLE: [u8; 152] = [
     0x00, 0x61, 0x73, 0x6D, 0x01, 0x00, 0x00, 0x00, 0x01, 0x08, 0x02, 0x60, 0x01, 0x7F, 0x00, 0x60,
     0x00, 0x00, 0x02, 0x0D, 0x01, 0x04, 0x68, 0x6F, 0x73, 0x74, 0x04, 0x65, 0x6D, 0x69, 0x74, 0x00,
     0x00, 0x03, 0x02, 0x01, 0x01, 0x05, 0x04, 0x01, 0x01, 0x01, 0x01, 0x06, 0x06, 0x01, 0x7F, 0x01,
@@ -27,93 +29,28 @@ const BYTES: [u8; 152] = [
     0x63, 0x6D, 0x61, 0x6A, 0x6F, 0x72, 0x01, 0x00,
 ];
 
-fn sample_types(alloc: Global) -> Result<FuncTypes, NoMemory>
-    ensures { IfOk result (λ types. types ≡ record { params = ValType.I32 ∷ []; results = [] } ∷ record { params = []; results = [] } ∷ []) }
-{
-    let mut types = Items::new(alloc);
-    types.push(FuncType {
-        params: Items::from_slice(alloc, &[ValType::I32])?,
-        results: Items::new(alloc),
-    })?;
-    types.push(FuncType {
-        params: Items::new(alloc),
-        results: Items::new(alloc),
-    })?;
-    Ok(types)
+fn empty(alloc: Global) -> Module {
+    Module {
+        types: Items::new(alloc),
+        imports: Items::new(alloc),
+        functions: Items::new(alloc),
+        memory: Items::new(alloc),
+        globals: Items::new(alloc),
+        exports: Items::new(alloc),
+        codes: Items::new(alloc),
+        segments: Items::new(alloc),
+        customs: Items::new(alloc),
+    }
 }
 
-fn sample_imports(alloc: Global) -> Result<Imports, NoMemory>
-    ensures { IfOk result (λ imports. imports ≡ record { «module» = codes "host"; name = codes "emit"; kind = ImportKind.Function 0 } ∷ []) }
-{
-    let mut imports = Items::new(alloc);
-    imports.push(Import {
-        module: Name::from_str(alloc, "host")?,
-        name: Name::from_str(alloc, "emit")?,
-        kind: ImportKind::Function(0),
-    })?;
-    Ok(imports)
-}
-
-fn sample_globals(alloc: Global) -> Result<Globals, NoMemory>
-    ensures { IfOk result (λ globals. globals ≡ record { ty = ValType.I32; mutable = true; value = Instr.I32Const (negsuc 4) } ∷ []) }
-{
-    let mut globals = Items::new(alloc);
-    globals.push(GlobalVar {
-        ty: ValType::I32,
-        mutable: true,
-        value: Instr::I32Const(-5),
-    })?;
-    Ok(globals)
-}
-
-fn sample_exports(alloc: Global) -> Result<Exports, NoMemory>
-    ensures { IfOk result (λ exports. exports ≡ record { name = codes "memory"; kind = ExportKind.Memory 0 } ∷ record { name = codes "frame"; kind = ExportKind.Function 1 } ∷ []) }
-{
-    let mut exports = Items::new(alloc);
-    exports.push(ExportEntry {
-        name: Name::from_str(alloc, "memory")?,
-        kind: ExportKind::Memory(0),
-    })?;
-    exports.push(ExportEntry {
-        name: Name::from_str(alloc, "frame")?,
-        kind: ExportKind::Function(1),
-    })?;
-    Ok(exports)
-}
-
-fn sample_segments(alloc: Global) -> Result<Segments, NoMemory>
-    ensures { IfOk result (λ segments. segments ≡ record { memory = 0; offset = pos 128; bytes = 7 ∷ 255 ∷ [] } ∷ []) }
-{
-    let mut segments = Items::new(alloc);
-    segments.push(Segment {
-        memory: 0,
-        offset: 128,
-        bytes: Items::from_slice(alloc, &[7, 255])?,
-    })?;
-    Ok(segments)
-}
-
-fn sample_customs(alloc: Global) -> Result<Customs, NoMemory>
-    ensures { IfOk result (λ customs. customs ≡ record { name = codes "note"; bytes = 9 ∷ [] } ∷ record { name = codes "cmajor"; bytes = 1 ∷ 0 ∷ [] } ∷ []) }
-{
-    let mut customs = Items::new(alloc);
-    customs.push(Custom {
-        name: Name::from_str(alloc, "note")?,
-        bytes: Items::from_slice(alloc, &[9])?,
-    })?;
-    customs.push(Custom {
-        name: Name::from_str(alloc, "cmajor")?,
-        bytes: Items::from_slice(alloc, &[1, 0])?,
-    })?;
-    Ok(customs)
-}
-
-fn sample_code(alloc: Global) -> Result<Code, NoMemory>
-    ensures { IfOk result (λ code. code ≡ sample_instructions) }
-{
+fn sample_code(alloc: Global) -> Result<Code, NoMemory> {
     let place = MemArg {
         align: 2,
         offset: 1024,
+    };
+    let table = LabelTable {
+        labels: Items::from_slice(alloc, &[1, 0])?,
+        other: 2,
     };
     Ok(Items::from_vec(vec![in alloc;
         Instr::I32Const(44100),
@@ -126,7 +63,7 @@ fn sample_code(alloc: Global) -> Result<Code, NoMemory>
         Instr::Block(None),
         Instr::Loop(None),
         Instr::LocalGet(0),
-        Instr::BrTable(Items::from_slice(alloc, &[1, 0])?, 2),
+        Instr::BrTable(Boxed::new(alloc, table)?),
         Instr::End,
         Instr::End,
         Instr::GlobalGet(0),
@@ -135,59 +72,115 @@ fn sample_code(alloc: Global) -> Result<Code, NoMemory>
     ]?))
 }
 
-fn sample_codes(alloc: Global) -> Result<FuncBodies, NoMemory>
-    ensures { IfOk result (λ bodies. bodies ≡ record { locals = record { count = 200; ty = ValType.I32 } ∷ []; code = sample_instructions } ∷ []) }
-{
-    let mut bodies = Items::new(alloc);
+fn add_functions(module: &mut Module, alloc: Global) -> Result<(), NoMemory> {
+    module.types.push(FuncType {
+        params: Items::from_slice(alloc, &[ValType::I32])?,
+        results: Items::new(alloc),
+    })?;
+    module.types.push(FuncType {
+        params: Items::new(alloc),
+        results: Items::new(alloc),
+    })?;
+    module.imports.push(Import {
+        module: Name::from_str(alloc, "host")?,
+        name: Name::from_str(alloc, "emit")?,
+        kind: ImportKind::Function(0),
+    })?;
+    module.functions.push(1)?;
     let locals = LocalRun {
         count: 200,
         ty: ValType::I32,
     };
-    bodies.push(FuncBody {
+    module.codes.push(FuncBody {
         locals: Items::from_slice(alloc, &[locals])?,
         code: sample_code(alloc)?,
     })?;
-    Ok(bodies)
+    Ok(())
 }
 
-pub fn sample(alloc: Global) -> Result<Module, NoMemory>
-    ensures { IfOk result IsWritable }
-{
-    Ok(Module {
-        types: sample_types(alloc)?,
-        imports: sample_imports(alloc)?,
-        functions: Items::from_slice(alloc, &[1])?,
-        memory: Items::from_slice(
-            alloc,
-            &[Limits {
-                min: 1,
-                max: Some(1),
-            }],
-        )?,
-        globals: sample_globals(alloc)?,
-        exports: sample_exports(alloc)?,
-        codes: sample_codes(alloc)?,
-        segments: sample_segments(alloc)?,
-        customs: sample_customs(alloc)?,
-    })
+fn add_export(
+    module: &mut Module,
+    alloc: Global,
+    name: &str,
+    kind: ExportKind,
+) -> Result<(), NoMemory> {
+    let name = Name::from_str(alloc, name)?;
+    module.exports.push(ExportEntry { name, kind })?;
+    Ok(())
+}
+
+fn add_custom(
+    module: &mut Module,
+    alloc: Global,
+    name: &str,
+    bytes: &[u8],
+) -> Result<(), NoMemory> {
+    module.customs.push(Custom {
+        name: Name::from_str(alloc, name)?,
+        bytes: Items::from_slice(alloc, bytes)?,
+    })?;
+    Ok(())
+}
+
+fn sample(alloc: Global) -> Result<Module, NoMemory> {
+    let mut module = empty(alloc);
+    add_functions(&mut module, alloc)?;
+    module.memory.push(Limits {
+        min: 1,
+        max: Some(1),
+    })?;
+    module.globals.push(GlobalVar {
+        ty: ValType::I32,
+        mutable: true,
+        value: Instr::I32Const(-5),
+    })?;
+    add_export(&mut module, alloc, "memory", ExportKind::Memory(0))?;
+    add_export(&mut module, alloc, "frame", ExportKind::Function(1))?;
+    module.segments.push(Segment {
+        memory: 0,
+        offset: 128,
+        bytes: Items::from_slice(alloc, &[7, 255])?,
+    })?;
+    add_custom(&mut module, alloc, "note", &[9])?;
+    add_custom(&mut module, alloc, "cmajor", &[1, 0])?;
+    Ok(module)
+}
+
+// What a caller does with a module that it has from elsewhere.
+fn written(alloc: Global, module: &Module) -> Result<Option<Bytes>, NoMemory> {
+    if !is_writable(module) {
+        return Ok(None);
+    }
+    Ok(Some(write_module(alloc, module)?))
 }
 
 #[test]
-fn a_module(rt: HostRuntime) -> Result<(), Fail> {
-    let module = sample(rt.alloc()).ok().ok_or("there is memory")?;
-    let bytes = write_module(rt.alloc(), &module)
-        .ok()
-        .ok_or("there is memory")?;
-    assert_eq!(rt; bytes.as_slice(), BYTES.as_slice());
+fn modules(rt: HostRuntime) -> Result<(), Fail> {
+    let alloc = rt.alloc();
+    let sample = sample(alloc).ok().ok_or("there is memory")?;
+    let table: [(Module, &[u8]); 2] = [(empty(alloc), &EMPTY), (sample, &SAMPLE)];
+    for (module, want) in table {
+        let bytes = written(alloc, &module)
+            .ok()
+            .ok_or("there is memory")?
+            .ok_or("it is writable")?;
+        assert_eq!(rt; bytes.as_slice(), want);
+    }
+    Ok(())
+}
+
+#[test]
+fn a_function_without_code(rt: HostRuntime) -> Result<(), Fail> {
+    let mut module = sample(rt.alloc()).ok().ok_or("there is memory")?;
+    let _body = module.codes.pop();
+    assert!(rt; !is_writable(&module));
     Ok(())
 }
 
 #[test]
 fn unsigned_numbers(rt: HostRuntime) -> Result<(), Fail> {
-    let table: [(u32, &[u8]); 7] = [
+    let table: [(u32, &[u8]); 5] = [
         (0, &[0x00]),
-        (63, &[0x3F]),
-        (64, &[0x40]),
         (127, &[0x7F]),
         (128, &[0x80, 0x01]),
         (44100, &[0xC4, 0xD8, 0x02]),
@@ -205,8 +198,7 @@ fn unsigned_numbers(rt: HostRuntime) -> Result<(), Fail> {
 
 #[test]
 fn signed_numbers(rt: HostRuntime) -> Result<(), Fail> {
-    let table: [(i64, &[u8]); 9] = [
-        (0, &[0x00]),
+    let table: [(i64, &[u8]); 8] = [
         (-1, &[0x7F]),
         (63, &[0x3F]),
         (64, &[0xC0, 0x00]),
@@ -227,5 +219,50 @@ fn signed_numbers(rt: HostRuntime) -> Result<(), Fail> {
         put_signed(&mut out, number).ok().ok_or("there is memory")?;
         assert_eq!(rt; out.as_slice(), want, "at {number}");
     }
+    Ok(())
+}
+
+fn end_of(
+    alloc: Global,
+    name: &str,
+    shape: &[Scalar],
+    parameter: Option<Range>,
+) -> Result<HostEnd, NoMemory>
+    requires named { length name.now < 2 ^ 32 }
+    requires shaped { length shape.now < 2 ^ 32 }
+    ensures name { IfOk result (λ end. length end.name < 2 ^ 32) }
+    ensures shape { IfOk result (λ end. length end.shape < 2 ^ 32) }
+{
+    Ok(HostEnd {
+        flow: Flow::Input,
+        kind: Kind::Value,
+        name: Name::from_str(alloc, name)?,
+        shape: Items::from_slice(alloc, shape)?,
+        parameter,
+    })
+}
+
+#[test]
+fn a_section(rt: HostRuntime) -> Result<(), NoMemory> {
+    let alloc = rt.alloc();
+    let range = Range {
+        min: -1,
+        max: 10,
+        init: 3,
+    };
+    let shape = [Scalar::Int32, Scalar::Int32, Scalar::Wrap(5), Scalar::Bool];
+    let host = [
+        end_of(alloc, "gain", &[Scalar::Int32], Some(range))?,
+        end_of(alloc, "mixed", &shape, None)?,
+    ];
+    let section = write_section(alloc, Interface::Blocks(256), 130, &host, &[16, 300])?;
+    let wanted: [u8; 40] = [
+        0x02, 0x82, 0x01, 0x80, 0x02, 0x02, // interface 2, latency, block, count
+        0x00, 0x01, 0x04, 0x67, 0x61, 0x69, 0x6E, 0x10, 0x01, 0x01, 0x00, // gain
+        0x01, 0x7F, 0x0A, 0x03, // its range
+        0x00, 0x01, 0x05, 0x6D, 0x69, 0x78, 0x65, 0x64, 0xAC, 0x02, // mixed
+        0x03, 0x02, 0x00, 0x01, 0x03, 0x05, 0x01, 0x02, 0x00, // its runs
+    ];
+    assert!(&rt; section.as_slice() == wanted.as_slice());
     Ok(())
 }

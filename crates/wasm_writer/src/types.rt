@@ -1,24 +1,24 @@
 ghost use Rattle.std.specs.Prelude.{◌≡◌, ◌≤◌, ◌++◌, ◌∷◌, [], length, OnOk};
-ghost use Rattle.wasm_tree.specs.Spelled.{Bounds, type_byte, Type_of_value};
+ghost use Rattle.wasm_tree.specs.Spelled.{Bounds};
 ghost use Rattle.wasm_writer.specs.Spelling.{bounds_bytes};
 
+use crate::encode::{Encode, put_vector, size_of_vector};
 use crate::number::{put_unsigned, size_of_unsigned};
-use crate::part::{Part, put_vector, size_of_vector};
 use crate::size::add;
 use cm_base::NoMemory;
 use wasm_tree::{FuncType, Limits, ValType};
 
-impl Part for u32 {
+impl Encode for u32 {
     ghost use Rattle.wasm_tree.specs.Spelled.{Index};
     ghost use Rattle.wasm_writer.specs.Spelling.{unsigned_bytes};
 
-    ghost written = { unsigned_bytes };
+    ghost shortest = { unsigned_bytes };
 
-    ghost allowed = { Index };
+    ghost spells = { Index };
 
-    ghost formed = { λ _. Unit {0} };
+    ghost well_formed = { λ _. Unit {0} };
 
-    fn put(&self, out: &mut Vec<u8>) -> Result<(), NoMemory> {
+    fn encode(&self, out: &mut Vec<u8>) -> Result<(), NoMemory> {
         put_unsigned(out, *self)
     }
 
@@ -27,28 +27,18 @@ impl Part for u32 {
     }
 }
 
-/// The byte of a type of values (Core Specification 1.0, 5.3.1).
-pub fn byte_of_type(ty: ValType) -> u8
-    ensures { result ≡ type_byte ty }
-{
-    match ty {
-        ValType::I32 => 0x7F,
-        ValType::I64 => 0x7E,
-    }
-}
-
-impl Part for ValType {
+impl Encode for ValType {
     ghost use Rattle.wasm_tree.specs.Spelled.{Type_of_value};
     ghost use Rattle.wasm_writer.specs.Spelling.{value_type_bytes};
 
-    ghost written = { value_type_bytes };
+    ghost shortest = { value_type_bytes };
 
-    ghost allowed = { Type_of_value };
+    ghost spells = { Type_of_value };
 
-    ghost formed = { λ _. Unit {0} };
+    ghost well_formed = { λ _. Unit {0} };
 
-    fn put(&self, out: &mut Vec<u8>) -> Result<(), NoMemory> {
-        out.push(byte_of_type(*self))?;
+    fn encode(&self, out: &mut Vec<u8>) -> Result<(), NoMemory> {
+        out.push(self.byte())?;
         Ok(())
     }
 
@@ -57,29 +47,26 @@ impl Part for ValType {
     }
 }
 
-impl Part for FuncType {
+impl Encode for FuncType {
     ghost use Rattle.wasm_tree.specs.Spelled.{Type_of_function};
     ghost use Rattle.wasm_writer.specs.Spelling.{function_type_bytes};
 
-    ghost written = { function_type_bytes };
+    ghost shortest = { function_type_bytes };
 
-    ghost allowed = { Type_of_function };
+    ghost spells = { Type_of_function };
 
-    ghost formed = { λ _. Unit {0} };
+    ghost well_formed = { λ _. Unit {0} };
 
     #[tactic(auto, using(crate::proofs::TypeLemmas::function_type_spelled, crate::proofs::TypeLemmas::function_type_sizes))]
-    fn put(&self, out: &mut Vec<u8>) -> Result<(), NoMemory> {
+    fn encode(&self, out: &mut Vec<u8>) -> Result<(), NoMemory> {
         out.push(0x60)?;
-        put_vector(out, self.params.as_slice())?;
-        put_vector(out, self.results.as_slice())
+        put_vector(out, &self.params)?;
+        put_vector(out, &self.results)
     }
 
     #[tactic(auto, using(crate::proofs::Sizes::function_type_sized))]
     fn size(&self) -> u64 {
-        let lists = add(
-            size_of_vector(self.params.as_slice()),
-            size_of_vector(self.results.as_slice()),
-        );
+        let lists = add(size_of_vector(&self.params), size_of_vector(&self.results));
         add(1, lists)
     }
 }
@@ -93,14 +80,12 @@ pub fn put_bounds(out: &mut Vec<u8>, least: u32, most: Option<u32>) -> Result<()
     match most {
         None => {
             out.push(0x00)?;
-            put_unsigned(out, least)?;
-            Ok(())
+            put_unsigned(out, least)
         }
         Some(most) => {
             out.push(0x01)?;
             put_unsigned(out, least)?;
-            put_unsigned(out, most)?;
-            Ok(())
+            put_unsigned(out, most)
         }
     }
 }
@@ -117,17 +102,17 @@ pub fn size_of_bounds(least: u32, most: Option<u32>) -> u64
     }
 }
 
-impl Part for Limits {
+impl Encode for Limits {
     ghost use Rattle.wasm_tree.specs.Spelled.{Memory};
     ghost use Rattle.wasm_writer.specs.Spelling.{memory_bytes};
 
-    ghost written = { memory_bytes };
+    ghost shortest = { memory_bytes };
 
-    ghost allowed = { Memory };
+    ghost spells = { Memory };
 
-    ghost formed = { λ _. Unit {0} };
+    ghost well_formed = { λ _. Unit {0} };
 
-    fn put(&self, out: &mut Vec<u8>) -> Result<(), NoMemory> {
+    fn encode(&self, out: &mut Vec<u8>) -> Result<(), NoMemory> {
         put_bounds(out, self.min, self.max)
     }
 

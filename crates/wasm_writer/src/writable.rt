@@ -1,21 +1,17 @@
 ghost use Rattle.std.specs.Prelude.{◌≡◌, ◌<◌, ◌≤◌, ◌^◌, ◌↔◌, length, All, IsTrue};
-ghost use Rattle.wasm_tree.specs.Spelled.{IsConstant, count_of_locals, most_locals, is_text, cmajor, sorted_customs};
-ghost use Rattle.wasm_writer.specs.Size.{capped};
-ghost use Rattle.wasm_writer.specs.Spelling.{vector_bytes, custom_contents, IsWritable};
-ghost use Rattle.wasm_writer.specs.Writable.{ListsFit, IsFormed};
+ghost use Rattle.wasm_tree.specs.Control.{IsClosed};
+ghost use Rattle.wasm_tree.specs.Spelled.{IsConstant, count_of_locals, most_locals, sorted_customs};
+ghost use Rattle.wasm_writer.specs.Spelling.{vector_bytes, custom_contents, ListsFit, IsFormed, IsWritable};
 
-use crate::closed::is_closed;
-use crate::part::{Part, size_of_vector};
-use crate::size::{BOUND, add, size_of_text};
-use cm_base::limits;
-use wasm_tree::{Custom, FuncBody, GlobalVar, Instr, LocalRun, Module};
-
-/// The name of the section that tells a host of the endpoints.
-const CMAJOR: &[u8] = b"cmajor";
+use crate::encode::{Encode, size_of_vector};
+use crate::section_sizes::size_of_custom;
+use crate::size::BOUND;
+use cm_base::{Items, limits};
+use wasm_tree::{ControlStack, Custom, FuncBody, GlobalVar, Instr, LocalRun, Module, is_cmajor};
 
 /// Whether the contents of a section that lists the parts have a size of 32 bits.
-fn fits<P: Part>(parts: &[P]) -> bool
-    ensures { IsTrue result ↔ (length (vector_bytes P.written parts.now) < 2 ^ 32) }
+fn fits<P: Encode>(parts: &Items<P>) -> bool
+    ensures { IsTrue result ↔ (length (vector_bytes P.shortest parts.now) < 2 ^ 32) }
 {
     size_of_vector(parts) < BOUND
 }
@@ -23,25 +19,14 @@ fn fits<P: Part>(parts: &[P]) -> bool
 fn lists_fit(module: &Module) -> bool
     ensures { IsTrue result ↔ ListsFit «module».now }
 {
-    fits(module.types.as_slice())
-        && fits(module.imports.as_slice())
-        && fits(module.functions.as_slice())
-        && fits(module.memory.as_slice())
-        && fits(module.globals.as_slice())
-        && fits(module.exports.as_slice())
-        && fits(module.codes.as_slice())
-        && fits(module.segments.as_slice())
-}
-
-/// The size of a custom section's contents.
-#[tactic(auto, using(crate::proofs::Sizes::custom_sized))]
-fn size_of_custom(custom: &Custom) -> u64
-    ensures { result ≡ capped (length (custom_contents custom.now)) }
-{
-    add(
-        size_of_text(custom.name.as_bytes()),
-        custom.bytes.len() as u64,
-    )
+    fits(&module.types)
+        && fits(&module.imports)
+        && fits(&module.functions)
+        && fits(&module.memory)
+        && fits(&module.globals)
+        && fits(&module.exports)
+        && fits(&module.codes)
+        && fits(&module.segments)
 }
 
 fn customs_fit(customs: &[Custom]) -> bool
@@ -85,26 +70,33 @@ fn has_few_locals(runs: &[LocalRun]) -> bool
     true
 }
 
+/// Whether the code ends each sequence that it opens, and the function's own last. What the stack had open
+/// before does not matter.
+fn is_closed(stack: &mut ControlStack, code: &[Instr]) -> bool
+    ensures { IsTrue result ↔ IsClosed code.now }
+{
+    stack.restart();
+    for instr in code {
+        if !stack.follow(instr) {
+            return false;
+        }
+    }
+    stack.is_ended()
+}
+
 fn are_formed(bodies: &[FuncBody]) -> bool
     ensures { IsTrue result ↔ All IsFormed bodies.now }
 {
-    // room for as many sequences as may stand inside one another, which is `limits::NESTING`
-    let mut arms = [false; 4096];
+    let mut stack = ControlStack::new();
     for body in bodies {
         if !has_few_locals(body.locals.as_slice()) {
             return false;
         }
-        if !is_closed(&mut arms, body.code.as_slice()) {
+        if !is_closed(&mut stack, body.code.as_slice()) {
             return false;
         }
     }
     true
-}
-
-fn is_cmajor(custom: &Custom) -> bool
-    ensures { result ≡ is_text custom.now.name cmajor }
-{
-    custom.name.as_bytes() == CMAJOR
 }
 
 /// Whether the custom sections named `cmajor` come last.
@@ -113,7 +105,7 @@ fn are_sorted(customs: &[Custom]) -> bool
 {
     let mut last = false;
     for custom in customs {
-        let named = is_cmajor(custom);
+        let named = is_cmajor(&custom.name);
         if last && !named {
             return false;
         }

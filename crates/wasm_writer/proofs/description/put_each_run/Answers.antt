@@ -1,7 +1,7 @@
 use Rattle.std.proofs.Common.{sym}
 use Rattle.std.proofs.lemmas.List.{take_all}
 use Rattle.std.proofs.lemmas.List.Elements.{All-same}
-use Rattle.wasm_writer.specs.Description.{run_bytes, Spelled_count}
+use Rattle.wasm_writer.specs.Description.{run_bytes, Spelled_scalar_run}
 use Rattle.wasm_writer.proofs.Parts.{each_spelled}
 use Rattle.wasm_writer.proofs.Runs.{written_more, spelled_more}
 use Rattle.wasm_writer.proofs.description.put_each_run.Goals as goal
@@ -14,4 +14,4 @@ loop-run-preserved c = record {
 
 pub returns-clause-spelled : goal.returns-clause-spelled
 returns-clause-spelled c =
-    each_spelled Spelled_count run_bytes c.args.runs.now (All-same (λ run. Spelled_count run (run_bytes run)) c.args.runs.now _ (sym (take_all c.loop-run.run-index c.args.runs.now c.loop-run-test.false)) c.loop-run.invariant.spelled)
+    each_spelled Spelled_scalar_run run_bytes c.args.runs.now (All-same (λ run. Spelled_scalar_run run (run_bytes run)) c.args.runs.now _ (sym (take_all c.loop-run.run-index c.args.runs.now c.loop-run-test.false)) c.loop-run.invariant.spelled)

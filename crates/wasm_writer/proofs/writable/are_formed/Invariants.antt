@@ -1,5 +1,5 @@
 use Rattle.std.proofs.Common.{take, All}
-use Rattle.wasm_writer.specs.Writable.{IsFormed}
+use Rattle.wasm_writer.specs.Spelling.{IsFormed}
 use Rattle.wasm_writer.proofs.writable.are_formed.Given as goal
 
 abbrev pub invariant-loop-body : goal.invariant-loop-body

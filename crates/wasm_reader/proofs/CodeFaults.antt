@@ -1,301 +1,219 @@
--- The same for instructions and code.
-use Rattle.std.proofs.Common.{◌≡◌, ℕ, zero, suc, ◌≤◌, ◌<◌, Bool, true, false, cond, eqb, leb, List, [], ◌∷◌, ◌++◌, length, Some, None, Result, Ok, Err, refl, sym, ap, subst, ◌∙◌, append_assoc, arith, pos, ◌⊎◌, inl, inr}
+-- What instructions and code read, and where they fail.
+use Rattle.std.proofs.Common.{◌≡◌, ℕ, zero, suc, ◌+◌, ◌≤◌, ◌<◌, Bool, true, false, cond, eqb, leb, ltb, List, [], ◌∷◌, ◌++◌, length, Option, Some, None, Result, Ok, Err, refl, sym, ap, subst, ◌∙◌, append_assoc, arith, ◌⊎◌, inl, inr}
 use Rattle.std.specs.Prelude.{◌&&◌}
-use Rattle.std.proofs.lemmas.Bool.{eqb-false}
-use Rattle.std.proofs.lemmas.List.{length-append}
-use Rattle.wasm_tree.specs.declared.failure.ModuleRule.{ModuleRule}
+use Rattle.std.specs.Option.{option_and_then}
+use Rattle.std.proofs.lemmas.Bool.{eqb-true, leb-false}
+use Rattle.std.proofs.lemmas.List.{append-nil, nil_from_length, length-append}
 use Rattle.wasm_tree.specs.declared.failure.ModuleRule.TheVariants as rule
-use Rattle.wasm_tree.specs.declared.module.ValType.{ValType}
 use Rattle.wasm_tree.specs.declared.module.FuncBody.{FuncBody}
 use Rattle.wasm_tree.specs.declared.module.LocalRun.{LocalRun}
 use Rattle.wasm_tree.specs.declared.instr.Instr.{Instr}
 use Rattle.wasm_tree.specs.declared.instr.Instr.TheVariants as instr
-use Rattle.wasm_tree.specs.Spelled.{Joined, Each, Vector, Index, Signed, LocalRuns, most_open, Instruction, type_byte}
+use Rattle.wasm_tree.specs.Opcode.{opcode_of}
+use Rattle.wasm_tree.specs.Control.{most_open, opened, at_begin, after_instruction, after_code}
+use Rattle.wasm_tree.specs.Spelled.{Joined, Each, LocalRuns, Body, Immediates, Instruction, Expression}
 use Rattle.wasm_reader.specs.declared.fault.Fault.{Fault}
-use Rattle.wasm_reader.specs.declared.form.Opening.TheVariants as opening
-use Rattle.wasm_reader.specs.declared.form.Indexed.TheVariants as indexed
-use Rattle.wasm_reader.specs.declared.form.Form.{Form}
-use Rattle.wasm_reader.specs.declared.form.Form.TheVariants as form
-use Rattle.wasm_reader.specs.Fault.{InTurn, OtherByte, NoNumber, NoIndex, NoVector, NoLocalRuns, IsOpcode, IsResult, NoImmediate, NoInstruction, IsOpen, StrayElse, IsTooDeep, TooDeep, NoExpression, BodyContents, NoBody}
-use Rattle.wasm_reader.specs.Reading.{◌>>=◌, at, byte_at, fixed_at, index_at, signed_at, vector_at, filled_at, type_at, block_type_at, place_at, local_runs_at, form_of, rest_at, bare_instr, opening_instr, indexed_instr, instruction_at, opens, room_at, follow_at, code_from, expression_at, body_at}
-use Rattle.wasm_reader.proofs.Steps.{ok_is}
-use Rattle.wasm_reader.proofs.Laws.{Taken, chosen, byte-spells, vector-spells}
+use Rattle.wasm_reader.specs.Fault.{InTurn, NoLocalRuns, IsOpcode, NoInstruction, StrayElse, IsTooDeep, TooDeep, NoExpression, BodyContents, NoBody}
+use Rattle.wasm_reader.specs.Samples.{sample_of}
+use Rattle.wasm_reader.specs.Reading.{◌>>=◌, at, byte_at, filled_at, local_runs_at, like_at, behind_at, instruction_at, opens, room_at, or_fault, follow_at, code_from, expression_at, body_at}
+use Rattle.wasm_reader.proofs.Laws.{Taken, Spells, Then, Mapped, chosen, then-spells, map-spells, as-spells, byte-spells, filled-spells, fills}
+use Rattle.wasm_reader.proofs.Opcodes.{sample-opcode, sample-of}
+use Rattle.wasm_reader.proofs.CodeLaws.{immediates-reads, instruction-spells, begins_with, too_deep, room-found, room-again, room-of}
+use Rattle.wasm_reader.proofs.FaultLaws.{Breaks, bind_err, err_is, breaks-by, then-breaks, map-breaks, missing_byte, other_byte, shorter, filled-breaks}
+use Rattle.wasm_reader.proofs.LocalLaws.{local_runs-spells, local_runs-breaks}
 use Rattle.wasm_reader.proofs.NumberLaws.{index-spells}
-use Rattle.wasm_reader.proofs.PartLaws.{local_runs-spells}
-use Rattle.wasm_reader.proofs.Forms.{is_known, form-opcode}
-use Rattle.wasm_reader.proofs.CodeLaws.{Behind, of-instruction, to-instruction, instruction-spells, HasRoom, too_deep, room-found, room-to, contents-spells, step}
-use Rattle.wasm_reader.proofs.FaultLaws.{Breaks, bind_err, err_is, pure-breaks, then-breaks, map-breaks, missing_byte, other_byte, shorter, fixed-breaks, index-breaks, signed-breaks, vector-breaks, filled-breaks}
-use Rattle.wasm_reader.proofs.PartFaults.{type-breaks, local_runs-breaks, place-breaks}
+use Rattle.wasm_reader.proofs.Steps.{ok_is, some_open}
+use Rattle.wasm_reader.proofs.Ends.{Ends, step, by_ends, ends_ok, ends_err}
 
-head_is : (c b : ℕ) (bytes rest : List ℕ) → c ∷ bytes ≡ b ∷ rest → c ≡ b
-head_is c b bytes rest e = cc
-
-block_type-both : (bytes : List ℕ) (x : Fault) → block_type_at bytes ≡ Err x → OtherByte IsResult x.rule x.left bytes × (x.left ≤ length bytes)
-unfolding block_type_at
-block_type-both bytes x e =
-    elim (bind_err (byte_at bytes) (λ b. cond (eqb b.0 0x40) (Ok (None, b.1)) (type_at bytes >>= λ t. Ok (Some t.0, t.1))) x e) [
-      | inl h ↦ missing_byte IsResult bytes x h
-      | inr h ↦
-          elim (chosen (eqb h.0.0 0x40) _ (type_at bytes >>= λ t. Ok (Some t.0, t.1)) (Err x) h.2) [
-            | inl k ↦ absurd (cc k.1)
-            | inr k ↦
-                elim (bind_err (type_at bytes) (λ t. Ok (Some t.0, t.1)) x k.1) [
-                  | inl l ↦ (widened bytes x h.0.0 h.0.1 (byte-spells.found bytes h.0.0 h.0.1 h.1) (eqb-false h.0.0 0x40 k.0) (type-breaks.fails bytes x l), type-breaks.within bytes x l)
-                  | inr l ↦ absurd (cc l.2)
-                ]
-          ]
-    ] where
-      widened : (bytes : List ℕ) (x : Fault) (b : ℕ) (rest : List ℕ) → Taken (λ b bytes. bytes ≡ b ∷ []) bytes b rest → (b ≡ 0x40 → ⊥) → OtherByte (λ b. (t : ValType) × (b ≡ type_byte t)) x.rule x.left bytes → OtherByte IsResult x.rule x.left bytes
-      widened [] x b rest t apart o = o
-      widened (c ∷ bytes) x b rest t apart o = (o.0, o.1, none) where
-        none : IsResult c → ⊥
-        none (None, e) = apart (sym (head_is c b bytes rest (t.whole ∙ ap (λ (l : List ℕ). l ++ rest) t.spelled)) ∙ e)
-        none (Some u, e) = o.2 (u, e)
-
--- an instruction of this form, and what fails behind its opcode
-record Sample (f : Form) : Type 0 where
-  i : Instr
-  like : List ℕ
-  behind : Behind f i like
-
-zero_index : Index 0 (0 ∷ [])
-zero_index = (omega arith, omega arith, refl)
-
-sample : (f : Form) → is_known f ≡ true → Sample f
-sample form.Unknown e = absurd (cc e)
-sample (form.Bare f) e = record { i = bare_instr f; like = []; behind = (refl, refl) }
-sample (form.Opening f) e = record { i = opening_instr f None; like = 0x40 ∷ []; behind = (None, refl, refl) }
-sample (form.Indexed f) e = record { i = indexed_instr f 0; like = 0 ∷ []; behind = (0, refl, zero_index) }
-sample (form.Load op) e = record { i = instr.Load op (record { align = 0; offset = 0 }); like = 0 ∷ 0 ∷ []; behind = (record { align = 0; offset = 0 }, refl, record { front = 0 ∷ []; back = 0 ∷ []; whole = refl; first = zero_index; second = zero_index }) }
-sample (form.Store op) e = record { i = instr.Store op (record { align = 0; offset = 0 }); like = 0 ∷ 0 ∷ []; behind = (record { align = 0; offset = 0 }, refl, record { front = 0 ∷ []; back = 0 ∷ []; whole = refl; first = zero_index; second = zero_index }) }
-sample form.BrTable e = record {
-  i = instr.BrTable [] 0;
-  like = 0 ∷ 0 ∷ [];
-  behind = ([], record { front = 0 ∷ []; back = 0 ∷ []; whole = refl; first = record { front = 0 ∷ []; back = []; whole = refl; first = zero_index; second = refl }; second = (0, refl, zero_index) });
-}
-sample form.MemorySize e = record { i = instr.MemorySize; like = 0 ∷ []; behind = record { front = 0 ∷ []; back = []; whole = refl; first = refl; second = (refl, refl) } }
-sample form.I32Const e = record { i = instr.I32Const (pos 0); like = 0 ∷ []; behind = (pos 0, refl, inl (omega arith, omega arith, refl)) }
-sample form.I64Const e = record { i = instr.I64Const (pos 0); like = 0 ∷ []; behind = (pos 0, refl, inl (omega arith, omega arith, refl)) }
-
-fixed-then-breaks : {C : Type 0} (due : ℕ) (c : C) → Breaks (OtherByte (λ b. b ≡ due)) {A = C × List ℕ} (λ bytes. fixed_at due bytes >>= λ rest. Ok (c, rest))
-fixed-then-breaks {C} due c = record { fails = λ bytes x e. (fixed-breaks due).fails bytes x (first bytes x e); within = λ bytes x e. (fixed-breaks due).within bytes x (first bytes x e) } where
-  last : List ℕ → Result (C × List ℕ) Fault
-  last rest = Ok (c, rest)
-
-  first : (bytes : List ℕ) (x : Fault) → (fixed_at due bytes >>= λ rest. last rest) ≡ Err x → fixed_at due bytes ≡ Err x
-  first bytes x e =
-      elim (bind_err (fixed_at due bytes) (λ rest. last rest) x e) [
-        | inl h ↦ h
-        | inr h ↦ absurd (cc h.2)
-      ]
-
--- what can fail behind an opcode of this form
-abbrev NoRest : Form → ModuleRule → ℕ → List ℕ → Type 0
-NoRest form.Unknown r left bytes = ⊥
-NoRest (form.Bare f) r left bytes = ⊥
-NoRest (form.Opening f) r left bytes = OtherByte IsResult r left bytes
-NoRest (form.Indexed f) r left bytes = NoIndex r left bytes
-NoRest (form.Load op) r left bytes = InTurn NoIndex Index (λ _. NoIndex) r left bytes
-NoRest (form.Store op) r left bytes = InTurn NoIndex Index (λ _. NoIndex) r left bytes
-NoRest form.BrTable r left bytes = InTurn (NoVector Index NoIndex) (Vector Index) (λ _. NoIndex) r left bytes
-NoRest form.MemorySize r left bytes = OtherByte (λ b. b ≡ 0x00) r left bytes
-NoRest form.I32Const r left bytes = NoNumber (Signed 32) r left bytes
-NoRest form.I64Const r left bytes = NoNumber (Signed 64) r left bytes
-
-block_type-breaks : Breaks (OtherByte IsResult) block_type_at
-block_type-breaks = record { fails = λ bytes x e. (block_type-both bytes x e).0; within = λ bytes x e. (block_type-both bytes x e).1 }
-
-rest-breaks : (start : ℕ) (f : Form) → is_known f ≡ true → Breaks (NoRest f) (rest_at start f)
-rest-breaks start form.Unknown e = absurd (cc e)
-rest-breaks start (form.Bare f) e = pure-breaks (bare_instr f)
-rest-breaks start (form.Opening f) e = map-breaks (opening_instr f) (OtherByte IsResult) block_type_at block_type-breaks
-rest-breaks start (form.Indexed f) e = map-breaks (indexed_instr f) NoIndex index_at index-breaks
-rest-breaks start (form.Load op) e = map-breaks (instr.Load op) (InTurn NoIndex Index (λ _. NoIndex)) place_at place-breaks
-rest-breaks start (form.Store op) e = map-breaks (instr.Store op) (InTurn NoIndex Index (λ _. NoIndex)) place_at place-breaks
-rest-breaks start form.BrTable e =
-    then-breaks (NoVector Index NoIndex) (Vector Index) (λ _. NoIndex) (vector_at index_at) (λ whole labels rest. index_at rest >>= λ other. Ok (instr.BrTable labels other.0, other.1)) (vector-spells Index index_at index-spells index-spells)
-    (vector-breaks Index NoIndex index_at index-spells index-breaks) (λ whole labels. map-breaks (instr.BrTable labels) NoIndex index_at index-breaks)
-rest-breaks start form.MemorySize e = fixed-then-breaks 0x00 instr.MemorySize
-rest-breaks start form.I32Const e = map-breaks instr.I32Const (NoNumber (Signed 32)) (signed_at 32) (signed-breaks 32 (omega arith))
-rest-breaks start form.I64Const e = map-breaks instr.I64Const (NoNumber (Signed 64)) (signed_at 64) (signed-breaks 64 (omega arith))
-
-immediate : (f : Form) (known : is_known f ≡ true) (r : ModuleRule) (left : ℕ) (bytes : List ℕ) → NoRest f r left bytes → NoImmediate (sample f known).i r left bytes
-unfolding sample
-immediate form.Unknown known r left bytes h = absurd h
-immediate (form.Bare f) known r left bytes h = absurd h
-immediate (form.Opening opening.Block) known r left bytes h = h
-immediate (form.Opening opening.Loop) known r left bytes h = h
-immediate (form.Opening opening.If) known r left bytes h = h
-immediate (form.Indexed indexed.Br) known r left bytes h = h
-immediate (form.Indexed indexed.BrIf) known r left bytes h = h
-immediate (form.Indexed indexed.Call) known r left bytes h = h
-immediate (form.Indexed indexed.LocalGet) known r left bytes h = h
-immediate (form.Indexed indexed.LocalSet) known r left bytes h = h
-immediate (form.Indexed indexed.LocalTee) known r left bytes h = h
-immediate (form.Indexed indexed.GlobalGet) known r left bytes h = h
-immediate (form.Indexed indexed.GlobalSet) known r left bytes h = h
-immediate (form.Load op) known r left bytes h = h
-immediate (form.Store op) known r left bytes h = h
-immediate form.BrTable known r left bytes h = h
-immediate form.MemorySize known r left bytes h = h
-immediate form.I32Const known r left bytes h = h
-immediate form.I64Const known r left bytes h = h
-
-unknown_is : (f : Form) → is_known f ≡ false → f ≡ form.Unknown
-unknown_is form.Unknown e = refl
-unknown_is f e = absurd (cc e)
-
-no_opcode : (b : ℕ) → form_of b ≡ form.Unknown → IsOpcode b → ⊥
-no_opcode b e (i, bytes, h) =
-    let p = of-instruction i (b ∷ bytes) h in
-    let same : b ≡ p.0 = head_is b p.0 bytes p.1.back (p.1.whole ∙ ap (λ (l : List ℕ). l ++ p.1.back) p.1.first) in
-    let none : form_of p.0 ≡ form.Unknown = ap form_of (sym same) ∙ e in
-    subst (λ (f : Form). Behind f i p.1.back) none p.1.second
-
-true_or_false : (b : Bool) → (b ≡ true) ⊎ (b ≡ false)
-true_or_false true = inl refl
-true_or_false false = inr refl
+no_opcode : (b : ℕ) → sample_of b ≡ None → IsOpcode b → ⊥
+no_opcode b e (i, is) = absurd (cc (sample-of i, ap sample_of is))
 
 instruction-both : (bytes : List ℕ) (x : Fault) → instruction_at bytes ≡ Err x → NoInstruction x.rule x.left bytes × (x.left ≤ length bytes)
-unfolding instruction_at
+unfolding instruction_at behind_at
 instruction-both bytes x e =
-    elim (bind_err (byte_at bytes) (λ b. rest_at (length bytes) (form_of b.0) b.1) x e) [
+    elim (bind_err (byte_at bytes) (λ b. behind_at (length bytes) b.0 b.1) x e) [
       | inl h ↦ let m = missing_byte IsOpcode bytes x h in (inl m.0, m.1)
-      | inr h ↦
-          let t = byte-spells.found bytes h.0.0 h.0.1 h.1 in
-          let bytes-are : bytes ≡ h.0.0 ∷ h.0.1 = t.whole ∙ ap (λ (l : List ℕ). l ++ h.0.1) t.spelled in
-          elim (true_or_false (is_known (form_of h.0.0))) [
-            | inl known ↦
-                let b = rest-breaks (length bytes) (form_of h.0.0) known in
-                let s = sample (form_of h.0.0) known in
-                let like : Instruction s.i (h.0.0 ∷ s.like) = to-instruction s.i h.0.0 (form_of h.0.0) s.like (h.0.0 ∷ s.like) (form-opcode h.0.0) refl s.behind in
-                (inr (s.i, h.0.0, s.like, h.0.1, bytes-are, like, immediate (form_of h.0.0) known x.rule x.left h.0.1 (b.fails h.0.1 x h.2)), shorter bytes t.front h.0.1 x.left t.whole (b.within h.0.1 x h.2))
-            | inr unknown ↦
-                let is = unknown_is (form_of h.0.0) unknown in
-                let failed : rest_at (length bytes) form.Unknown h.0.1 ≡ Err x = subst (λ (f : Form). rest_at (length bytes) f h.0.1 ≡ Err x) is h.2 in
-                let o = other_byte IsOpcode bytes h.0.0 h.0.1 x h.1 (no_opcode h.0.0 is) (sym (err_is (at rule.Opcode (length bytes)) x failed)) in
-                (inl o.0, o.1)
-          ]
-    ]
+      | inr h ↦ by h.0.0 h.0.1 h.1 (sample_of h.0.0) refl h.2
+    ] where
+      by : (b : ℕ) (rest : List ℕ) → byte_at bytes ≡ Ok (b, rest) → (o : Option Instr) → sample_of b ≡ o → like_at (length bytes) o rest ≡ Err x → NoInstruction x.rule x.left bytes × (x.left ≤ length bytes)
+      by b rest is None none e =
+          let o = other_byte IsOpcode bytes b rest x is (no_opcode b none) (sym (err_is (at rule.Opcode (length bytes)) x e)) in
+          (inl o.0, o.1)
+      by b rest is (Some like) some e =
+          let t = byte-spells.found bytes b rest is in
+          let k = (immediates-reads like).breaks in
+          let opcode : b ∷ [] ≡ opcode_of like ∷ [] = ap (λ (n : ℕ). n ∷ []) (sym (sample-opcode b like some)) in
+          (inr (like, record { front = t.front; back = rest; whole = t.whole; first = t.spelled ∙ opcode; second = k.fails rest x e }), shorter bytes t.front rest x.left t.whole (k.within rest x e))
 
 pub instruction-breaks : Breaks NoInstruction instruction_at
 instruction-breaks = record { fails = λ bytes x e. (instruction-both bytes x e).0; within = λ bytes x e. (instruction-both bytes x e).1 }
 
 -- ---- code
 
-follow-fails : (start : ℕ) (arms : List Bool) (i : Instr) (x : Fault) → follow_at start arms i ≡ Err x → (i ≡ instr.Else) × (x ≡ at rule.Opcode start) × ((bytes rest : List ℕ) → start ≡ length bytes → bytes ≡ 0x05 ∷ rest → StrayElse arms rule.Opcode start bytes)
-follow-fails start [] instr.Else x e = (refl, sym (err_is (at rule.Opcode start) x e), λ bytes rest l w. (refl, l, rest, w))
-follow-fails start (false ∷ arms) instr.Else x e = (refl, sym (err_is (at rule.Opcode start) x e), λ bytes rest l w. (refl, l, rest, w))
-follow-fails start (true ∷ arms) instr.Else x e = absurd (cc e)
-follow-fails start [] instr.End x e = absurd (cc e)
-follow-fails start (arm ∷ arms) instr.End x e = absurd (cc e)
-follow-fails start arms i x e = absurd (cc e)
+-- from these open sequences on, the code ends them all
+abbrev Coded : List Bool → List Instr → List ℕ → Type 0
+Coded arms code bytes = Each Instruction code bytes × (after_code arms code ≡ Some [])
 
-opened : (l a : List Bool) (code : List Instr) (after : List Bool) → step false l ≡ step false a → IsOpen a code after → IsOpen l code after
-opened l a code after e h = subst (λ (y : List Bool). IsOpen y code after) (sym (ap (λ (q : Bool × List Bool). q.1) (ok_is (false, l) (false, a) e))) h
+pub or-found : {A : Type 0} (f : Fault) (o : Option A) (x : A) → or_fault f o ≡ Ok x → o ≡ Some x
+or-found f None x e = absurd cc
+or-found {A} f (Some y) x e = ap (λ (z : A). Some z) (ok_is y x e)
 
-follow-opens : (start : ℕ) (arms a : List Bool) (i : Instr) (code : List Instr) (after : List Bool) → HasRoom arms i → follow_at start arms i ≡ Ok (false, a) → IsOpen a code after → IsOpen arms (i ∷ code) after
-follow-opens start [] a instr.End code after room e h = absurd (cc (ap (λ (q : Bool × List Bool). q.0) (ok_is (true, []) (false, a) e)))
-follow-opens start (arm ∷ arms) a instr.End code after room e h = opened arms a code after e h
-follow-opens start [] a instr.Else code after room e h = absurd (cc e)
-follow-opens start (false ∷ arms) a instr.Else code after room e h = absurd (cc e)
-follow-opens start (true ∷ arms) a instr.Else code after room e h = opened (false ∷ arms) a code after e h
-follow-opens start arms a (instr.Block t) code after room e h = (room, opened (false ∷ arms) a code after e h)
-follow-opens start arms a (instr.Loop t) code after room e h = (room, opened (false ∷ arms) a code after e h)
-follow-opens start arms a (instr.If t) code after room e h = (room, opened (true ∷ arms) a code after e h)
-follow-opens start arms a i code after room e h = opened arms a code after e h
+none_open : (arms : List Bool) → eqb (length arms) 0 ≡ true → arms ≡ []
+none_open arms e = nil_from_length arms (eqb-true _ _ e)
+
+-- code reaches what it reaches behind its first instruction
+pub reaches : (arms next after : List Bool) (i : Instr) (code : List Instr) → after_instruction arms i ≡ Some next → after_code next code ≡ Some after → after_code arms (i ∷ code) ≡ Some after
+reaches arms next after i code e h = rw e h
+
+or-fails : {A : Type 0} (f x : Fault) (o : Option A) → or_fault f o ≡ Err x → (o ≡ None) × (x ≡ f)
+or-fails f x None e = (refl, sym (err_is f x e))
+or-fails f x (Some y) e = absurd cc
+
+none_opened : (arm a : Bool) (arms : List Bool) → opened arm (a ∷ arms) ≡ None → most_open < length (a ∷ arms)
+none_opened arm a arms e =
+    elim (chosen (leb (length (a ∷ arms)) most_open) (Some (arm ∷ (a ∷ arms))) None None e) [
+      | inl h ↦ absurd (cc h.1)
+      | inr h ↦ leb-false _ _ h.0
+    ]
+
+-- only an `else` is stray where the sequences don't stand too deep
+stray : (a : Bool) (arms : List Bool) (i : Instr) (bytes back : List ℕ) → bytes ≡ opcode_of i ∷ back → after_instruction (a ∷ arms) i ≡ None → (IsTooDeep (a ∷ arms) bytes → ⊥) → StrayElse (a ∷ arms) rule.Opcode (length bytes) bytes
+stray a arms (instr.Block t) bytes back w e shallow = absurd (shallow (subst (IsTooDeep (a ∷ arms)) (sym w) (none_opened false a arms e, inl refl)))
+stray a arms (instr.Loop t) bytes back w e shallow = absurd (shallow (subst (IsTooDeep (a ∷ arms)) (sym w) (none_opened false a arms e, inr (inl refl))))
+stray a arms (instr.If t) bytes back w e shallow = absurd (shallow (subst (IsTooDeep (a ∷ arms)) (sym w) (none_opened true a arms e, inr (inr refl))))
+stray a arms instr.Else bytes back w e shallow = (refl, refl, record { front = 0x05 ∷ []; back = back; whole = w; first = refl; second = e })
+stray a arms i bytes back w e shallow = absurd cc
 
 -- what fails where these sequences are open
 abbrev Stops : List Bool → Fault → List ℕ → Type 0
 Stops arms x back = TooDeep arms x.rule x.left back ⊎ ((IsTooDeep arms back → ⊥) × (NoInstruction x.rule x.left back ⊎ StrayElse arms x.rule x.left back))
 
 abbrev From : List Bool → Fault → List ℕ → Type 0
-From arms x bytes = (code : List Instr) × (after : List Bool) × IsOpen arms code after × Joined (Each Instruction code) (Stops after x) bytes
+From arms x bytes = (code : List Instr) × (after : List Bool) × (after_code arms code ≡ Some after) × (0 < length after) × Joined (Each Instruction code) (Stops after x) bytes
 
-at_once : (arms : List Bool) (x : Fault) (bytes : List ℕ) → Stops arms x bytes → From arms x bytes
-at_once [] x bytes h = ([], [], refl, record { front = []; back = bytes; whole = refl; first = refl; second = h })
-at_once (arm ∷ arms) x bytes h = ([], arm ∷ arms, refl, record { front = []; back = bytes; whole = refl; first = refl; second = h })
+at_once : (a : Bool) (arms : List Bool) (x : Fault) (bytes : List ℕ) → Stops (a ∷ arms) x bytes → From (a ∷ arms) x bytes
+at_once a arms x bytes h = ([], a ∷ arms, refl, omega arith, record { front = []; back = bytes; whole = refl; first = refl; second = h })
 
-room-fails : (arms : List Bool) (bytes : List ℕ) (x : Fault) → room_at arms bytes ≡ Err x → From arms x bytes × (x.left ≤ length bytes)
+room-fails : (a : Bool) (arms : List Bool) (bytes : List ℕ) (x : Fault) → room_at (a ∷ arms) bytes ≡ Err x → From (a ∷ arms) x bytes × (x.left ≤ length bytes)
 unfolding room_at
-room-fails arms bytes x e =
-    elim (chosen (leb most_open (length arms) && opens bytes) (Err (at rule.Limit (length bytes))) (Ok tt) (Err x) e) [
+room-fails a arms bytes x e =
+    elim (chosen (ltb most_open (length (a ∷ arms)) && opens bytes) (Err (at rule.Limit (length bytes))) (Ok tt) (Err x) e) [
       | inl h ↦
-          subst (λ (y : Fault). From arms y bytes × (y.left ≤ length bytes)) (err_is (at rule.Limit (length bytes)) x h.1)
-          (at_once arms (at rule.Limit (length bytes)) bytes (inl (refl, refl, too_deep arms bytes h.0)), omega arith)
+          subst (λ (y : Fault). From (a ∷ arms) y bytes × (y.left ≤ length bytes)) (err_is (at rule.Limit (length bytes)) x h.1)
+          (at_once a arms (at rule.Limit (length bytes)) bytes (inl (refl, refl, too_deep (a ∷ arms) bytes h.0)), omega arith)
       | inr h ↦ absurd (cc h.1)
     ]
 
-takes_some : (i : Instr) (front : List ℕ) → Instruction i front → 0 < length front
-takes_some i front h =
-    let p = of-instruction i front h in
-    omega (arith, ap length (p.1.whole ∙ ap (λ (l : List ℕ). l ++ p.1.back) p.1.first))
-
-abbrev Located : ℕ → Type 0
-Located n = (arms : List Bool) (bytes : List ℕ) (x : Fault) → length bytes ≤ n → code_from n arms bytes ≡ Err x → From arms x bytes × (x.left ≤ length bytes)
+-- code is read up to the end of these sequences, or fails there
+abbrev CodeEnd : ℕ → List Bool → List ℕ → Type 0
+CodeEnd n arms bytes = Ends (λ y. Taken (Coded arms) bytes y.0 y.1) (λ x. From arms x bytes × (x.left ≤ length bytes)) (code_from n arms bytes)
 
 -- what is read behind an instruction
-abbrev behind_at : ℕ → List Bool → List ℕ → Instr → List ℕ → Result (List Instr × List ℕ) Fault
-behind_at n arms bytes i rest = follow_at (length bytes) arms i >>= λ s. cond s.0 (Ok (i ∷ [], rest)) (code_from n s.1 rest >>= λ more. Ok (i ∷ more.0, more.1))
+abbrev rest_of : ℕ → List Bool → Instr → List ℕ → Result (List Instr × List ℕ) Fault
+rest_of n next i rest = cond (eqb (length next) 0) (Ok (i ∷ [], rest)) (code_from n next rest >>= λ more. Ok (i ∷ more.0, more.1))
 
-behind-both : (n : ℕ) → Located n → (arms : List Bool) (bytes : List ℕ) (x : Fault) (i : Instr) (rest : List ℕ) → length bytes ≤ suc n → (IsTooDeep arms bytes → ⊥) → Taken Instruction bytes i rest → behind_at n arms bytes i rest ≡ Err x
-    → From arms x bytes × (x.left ≤ length bytes)
-behind-both n located arms bytes x i rest le shallow t e =
-    elim (bind_err (follow_at (length bytes) arms i) (λ s. cond s.0 (Ok (i ∷ [], rest)) (code_from n s.1 rest >>= λ more. Ok (i ∷ more.0, more.1))) x e) [
-      | inl k ↦
-          let f = follow-fails (length bytes) arms i x k in
-          let else_is : t.front ≡ 0x05 ∷ [] = subst (λ (j : Instr). Instruction j t.front) f.0 t.spelled in
-          let stray = f.2 bytes rest refl (t.whole ∙ ap (λ (l : List ℕ). l ++ rest) else_is) in
-          subst (λ (y : Fault). From arms y bytes × (y.left ≤ length bytes)) (sym f.1) (at_once arms (at rule.Opcode (length bytes)) bytes (inr (shallow, inr stray)), omega arith)
-      | inr k ↦
-          elim (chosen k.0.0 (Ok (i ∷ [], rest)) (code_from n k.0.1 rest >>= λ more. Ok (i ∷ more.0, more.1)) (Err x) k.2) [
-            | inl l ↦ absurd (cc l.1)
-            | inr l ↦
-                elim (bind_err (code_from n k.0.1 rest) (λ more. Ok (i ∷ more.0, more.1)) x l.1) [
-                  | inl m ↦
-                      let follows : follow_at (length bytes) arms i ≡ Ok (false, k.0.1) = k.1 ∙ ap (λ (b : Bool). step b k.0.1) l.0 in
-                      let room : HasRoom arms i = room-to arms i t.front rest t.spelled (λ d. shallow (subst (IsTooDeep arms) (sym t.whole) d)) in
-                      let less : length rest ≤ n = omega (arith, ap length t.whole, length-append t.front rest, takes_some i t.front t.spelled) in
-                      let so = located k.0.1 rest x less m in
-                      let j = so.0.3 in (
-                        (
-                          i ∷ so.0.0,
-                          so.0.1,
-                          follow-opens (length bytes) arms k.0.1 i so.0.0 so.0.1 room follows so.0.2,
-                          record {
-                            front = t.front ++ j.front;
-                            back = j.back;
-                            whole = t.whole ∙ ap (λ (r : List ℕ). t.front ++ r) j.whole ∙ sym (append_assoc t.front j.front j.back);
-                            first = record { front = t.front; back = j.front; whole = refl; first = t.spelled; second = j.first };
-                            second = j.second;
-                          },
-                        ),
-                        shorter bytes t.front rest x.left t.whole so.1,
-                      )
-                  | inr m ↦ absurd (cc m.2)
-                ]
-          ]
-    ]
+-- behind an instruction the function ends, or more code is read or fails
+behind-end : (n : ℕ) → ((a : Bool) (arms : List Bool) (bytes : List ℕ) → length bytes ≤ n → CodeEnd n (a ∷ arms) bytes) → (a : Bool) (arms : List Bool) (bytes : List ℕ) (i : Instr) (rest : List ℕ) → length bytes ≤ suc n → Taken Instruction bytes i rest
+    → (next : List Bool) → after_instruction (a ∷ arms) i ≡ Some next → Ends (λ (y : List Instr × List ℕ). Taken (Coded (a ∷ arms)) bytes y.0 y.1) (λ x. From (a ∷ arms) x bytes × (x.left ≤ length bytes)) (rest_of n next i rest)
+behind-end n so a arms bytes i rest le t [] follows =
+    record { front = t.front; whole = t.whole; spelled = (record { front = t.front; back = []; whole = sym (append-nil t.front); first = t.spelled; second = refl }, reaches (a ∷ arms) [] [] i [] follows refl) }
+behind-end n so a arms bytes i rest le t (b ∷ next) follows =
+    let takes : length t.front ≡ suc (length t.spelled.back) = ap length (begins_with (opcode_of i) (Immediates i) t.front t.spelled) ∙ omega arith in
+    let less : length rest ≤ n = omega (arith, ap length t.whole, length-append t.front rest) in
+    rw (some_open (b ∷ next) (λ (q : b ∷ next ≡ []). absurd cc)) (step (λ (y : List Instr × List ℕ). Taken (Coded (b ∷ next)) rest y.0 y.1) (λ x. From (b ∷ next) x rest × (x.left ≤ length rest)) _ _ (code_from n (b ∷ next) rest) _ (so b next rest less)
+    (λ x f.
+    let j = f.0.4 in
+    let whole : bytes ≡ (t.front ++ j.front) ++ j.back = t.whole ∙ ap (λ (r : List ℕ). t.front ++ r) j.whole ∙ sym (append_assoc t.front j.front j.back) in
+    let first : Each Instruction (i ∷ f.0.0) (t.front ++ j.front) = record { front = t.front; back = j.front; whole = refl; first = t.spelled; second = j.first } in
+    ((i ∷ f.0.0, f.0.1, reaches (a ∷ arms) (b ∷ next) f.0.1 i f.0.0 follows f.0.2, f.0.3, record { front = t.front ++ j.front; back = j.back; whole = whole; first = first; second = j.second }), shorter bytes t.front rest x.left t.whole f.1))
+    (λ more u. record {
+      front = t.front ++ u.front;
+      whole = t.whole ∙ ap (λ (r : List ℕ). t.front ++ r) u.whole ∙ sym (append_assoc t.front u.front more.1);
+      spelled = (record { front = t.front; back = u.front; whole = refl; first = t.spelled; second = u.spelled.0 }, reaches (a ∷ arms) (b ∷ next) [] i more.0 follows u.spelled.1);
+    }))
 
-code-both : (n : ℕ) → Located n
+code-end : (n : ℕ) (a : Bool) (arms : List Bool) (bytes : List ℕ) → length bytes ≤ n → CodeEnd n (a ∷ arms) bytes
 unfolding code_from
-code-both zero arms [] x le e =
-    subst (λ (y : Fault). From arms y [] × (y.left ≤ 0)) (err_is (at rule.Size 0) x e) (at_once arms (at rule.Size 0) [] (inr (λ d. d, inl (inl (refl, refl)))), omega arith)
-code-both zero arms (b ∷ bytes) x le e = absurd (omega arith)
-code-both (suc n) arms bytes x le e =
-    elim (bind_err (room_at arms bytes) (λ _. instruction_at bytes >>= λ i. behind_at n arms bytes i.0 i.1) x e) [
-      | inl r ↦ room-fails arms bytes x r
-      | inr r ↦
-          let shallow : IsTooDeep arms bytes → ⊥ = room-found arms bytes r.1 in
-          elim (bind_err (instruction_at bytes) (λ i. behind_at n arms bytes i.0 i.1) x r.2) [
-            | inl h ↦ (at_once arms x bytes (inr (shallow, inl (instruction-breaks.fails bytes x h))), instruction-breaks.within bytes x h)
-            | inr h ↦ behind-both n (code-both n) arms bytes x h.0.0 h.0.1 le shallow (instruction-spells.found bytes h.0.0 h.0.1 h.1) h.2
-          ]
-    ]
+code-end zero a arms [] le = (at_once a arms (at rule.Size 0) [] (inr (λ d. d, inl (inl (refl, refl)))), omega arith)
+code-end zero a arms (b ∷ bytes) le = absurd (omega arith)
+code-end (suc n) a arms bytes le =
+    step (λ (u : Unit). room_at (a ∷ arms) bytes ≡ Ok tt) (λ x. From (a ∷ arms) x bytes × (x.left ≤ length bytes)) _ _ (room_at (a ∷ arms) bytes) _ (by_ends _ _ (room_at (a ∷ arms) bytes) (λ u e. e) (λ x e. room-fails a arms bytes x e)) (λ x f. f) (λ u roomy.
+    let shallow : IsTooDeep (a ∷ arms) bytes → ⊥ = room-found (a ∷ arms) bytes roomy in
+    step (λ (y : Instr × List ℕ). Taken Instruction bytes y.0 y.1) (λ x. From (a ∷ arms) x bytes × (x.left ≤ length bytes)) _ _ (instruction_at bytes) _
+    (by_ends _ _ (instruction_at bytes) (λ y e. instruction-spells.found bytes y.0 y.1 e) (λ x e. (at_once a arms x bytes (inr (shallow, inl (instruction-breaks.fails bytes x e))), instruction-breaks.within bytes x e))) (λ x f. f) (λ y t.
+    let w : bytes ≡ opcode_of y.0 ∷ (t.spelled.back ++ y.1) = t.whole ∙ ap (λ (l : List ℕ). l ++ y.1) (begins_with (opcode_of y.0) (Immediates y.0) t.front t.spelled) in
+    step (λ next. after_instruction (a ∷ arms) y.0 ≡ Some next) (λ x. From (a ∷ arms) x bytes × (x.left ≤ length bytes)) _ _ (follow_at (length bytes) (a ∷ arms) y.0) _
+    (by_ends _ _ (follow_at (length bytes) (a ∷ arms) y.0) (λ next e. or-found (at rule.Opcode (length bytes)) (after_instruction (a ∷ arms) y.0) next e) (λ x e.
+    let f = or-fails (at rule.Opcode (length bytes)) x (after_instruction (a ∷ arms) y.0) e in
+    subst (λ (z : Fault). From (a ∷ arms) z bytes × (z.left ≤ length bytes)) (sym f.1) (at_once a arms (at rule.Opcode (length bytes)) bytes (inr (shallow, inr (stray a arms y.0 bytes (t.spelled.back ++ y.1) w f.0 shallow))), omega arith)))
+    (λ x f. f) (λ next follows. behind-end n (code-end n) a arms bytes y.0 y.1 le t next follows)))
+
+nothing_after : (code : List Instr) → after_code [] code ≡ Some [] → code ≡ []
+nothing_after [] e = refl
+nothing_after (i ∷ code) e = absurd cc
+
+code-again : (n : ℕ) (a : Bool) (arms : List Bool) (code : List Instr) (front rest : List ℕ) → length code ≤ n → Each Instruction code front → after_code (a ∷ arms) code ≡ Some [] → code_from n (a ∷ arms) (front ++ rest) ≡ Ok (code, rest)
+unfolding code_from
+code-again n a arms [] front rest le h closed = absurd cc
+code-again zero a arms (i ∷ code) front rest le h closed = absurd (omega arith)
+code-again (suc n) a arms (i ∷ code) front rest le h closed = by (λ b next. code-again n b next code h.back rest (omega arith) h.second) (after_instruction (a ∷ arms) i) refl closed where
+  regrouped : front ++ rest ≡ h.front ++ (h.back ++ rest)
+  regrouped = ap (λ (l : List ℕ). l ++ rest) h.whole ∙ append_assoc h.front h.back rest
+
+  one : instruction_at (front ++ rest) ≡ Ok (i, h.back ++ rest)
+  one = ap instruction_at regrouped ∙ instruction-spells.again i h.front (h.back ++ rest) h.first
+
+  room : (next : List Bool) → after_instruction (a ∷ arms) i ≡ Some next → room_at (a ∷ arms) (front ++ rest) ≡ Ok tt
+  room next e = room-again (a ∷ arms) (front ++ rest) (λ d. room-of (a ∷ arms) next i h.front (h.back ++ rest) e h.first (subst (IsTooDeep (a ∷ arms)) regrouped d))
+
+  by : ((b : Bool) (next : List Bool) → after_code (b ∷ next) code ≡ Some [] → code_from n (b ∷ next) (h.back ++ rest) ≡ Ok (code, rest)) → (o : Option (List Bool)) → after_instruction (a ∷ arms) i ≡ o → option_and_then (λ next. after_code next code) o ≡ Some [] → code_from (suc n) (a ∷ arms) (front ++ rest) ≡ Ok (i ∷ code, rest)
+  by so None e closed = absurd cc
+  by so (Some []) e closed =
+      let last : code ≡ [] = nothing_after code closed in
+      let none : h.back ≡ [] = subst (λ (l : List Instr). Each Instruction l h.back) last h.second in
+      let two : h.back ++ rest ≡ rest = ap (λ (l : List ℕ). l ++ rest) none in
+      rw (room [] e, one, e, last, two) refl
+  by so (Some (b ∷ next)) e closed = rw (room (b ∷ next) e, one, e, some_open (b ∷ next) (λ (q : b ∷ next ≡ []). absurd cc), so b next closed) refl
+
+each-length : (code : List Instr) (bytes : List ℕ) → Each Instruction code bytes → length code ≤ length bytes
+each-length [] bytes h = omega arith
+each-length (i ∷ code) bytes h =
+    let some : length h.front ≡ 1 + length h.first.back = ap length (begins_with (opcode_of i) (Immediates i) h.front h.first) ∙ omega arith in
+    let rest = each-length code h.back h.second in
+    let whole : length bytes ≡ length h.front + length h.back = ap length h.whole ∙ length-append h.front h.back in
+    omega arith
+
+pub expression-spells : Spells Expression expression_at
+unfolding expression_at
+expression-spells = record {
+  found = λ bytes code rest e.
+      let t = ends_ok (λ y. Taken (Coded at_begin) bytes y.0 y.1) (λ x. From at_begin x bytes × (x.left ≤ length bytes)) (code_from (length bytes) at_begin bytes) (code, rest) (code-end (length bytes) false [] bytes (omega arith)) e in
+      record { front = t.front; whole = t.whole; spelled = record { spelled = t.spelled.0; closed = t.spelled.1 } };
+  again = λ code front rest h.
+      code-again (length (front ++ rest)) false [] code front rest (omega (arith, length-append front rest, each-length code front h.spelled)) h.spelled h.closed;
+}
+
+abbrev pub Contents : FuncBody → List ℕ → Type 0
+Contents body = Joined (LocalRuns body.locals) (Expression body.code)
+
+pub contents-spells : Spells Contents body_at
+unfolding body_at
+contents-spells =
+    as-spells _ Contents body_at
+    (then-spells LocalRuns _ local_runs_at (λ whole locals rest. expression_at rest >>= λ code. Ok (record { locals = locals; code = code.0 }, code.1)) local_runs-spells
+    (λ whole locals. map-spells (λ code. record { locals = locals; code = code }) Expression expression_at expression-spells))
+    to
+    (λ x bytes h. (x.locals, record { front = h.front; back = h.back; whole = h.whole; first = h.first; second = (x.code, refl, h.second) }))
+  where
+    to : (x : FuncBody) (bytes : List ℕ) → Then LocalRuns (λ locals. Mapped (λ code. record { locals = locals; code = code }) Expression) x bytes → Contents x bytes
+    to x bytes (locals, h) = rw h.second.1 (record { front = h.front; back = h.back; whole = h.whole; first = h.first; second = h.second.2 })
+
+pub body-spells : Spells Body (filled_at body_at)
+body-spells = filled-spells Contents body_at index-spells (fills Contents body_at contents-spells)
 
 pub expression-breaks : Breaks NoExpression expression_at
 unfolding expression_at
-expression-breaks = record { fails = λ bytes x e. (code-both (length bytes) [] bytes x (omega arith) e).0; within = λ bytes x e. (code-both (length bytes) [] bytes x (omega arith) e).1 }
+expression-breaks = breaks-by NoExpression expression_at (λ bytes x e. ends_err (λ y. Taken (Coded at_begin) bytes y.0 y.1) (λ x. From at_begin x bytes × (x.left ≤ length bytes)) (code_from (length bytes) at_begin bytes) x (code-end (length bytes) false [] bytes (omega arith)) e)
 
 pub body-breaks : Breaks NoBody (filled_at body_at)
 unfolding body_at

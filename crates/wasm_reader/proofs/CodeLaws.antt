@@ -1,33 +1,27 @@
--- The same for instructions and for code.
-use Rattle.std.proofs.Common.{◌≡◌, ℕ, zero, suc, ◌+◌, ◌≤◌, ◌<◌, Bool, true, false, cond, eqb, leb, List, [], ◌∷◌, ◌++◌, length, Option, Some, None, Result, Ok, refl, sym, ap, subst, ◌∙◌, append_assoc, arith, ◌⊎◌, inl, inr}
+-- What instructions and code read is spelled so, and what is spelled so is read again.
+use Rattle.std.proofs.Common.{◌≡◌, ℕ, ◌≤◌, Bool, true, false, cond, eqb, leb, ltb, List, [], ◌∷◌, ◌++◌, length, Option, Some, None, Ok, Err, refl, sym, ap, subst, ◌∙◌, arith, ◌⊎◌, inl, inr}
 use Rattle.std.proofs.Math.Nat.{eq-or-lt_of_le}
-use Rattle.std.proofs.lemmas.List.{append-nil, length-append}
 use Rattle.std.specs.Prelude.{◌&&◌}
-use Rattle.std.proofs.lemmas.Bool.{eqb-true, leb-true, le-leb, cases_Bool, cases_lt}
-use Rattle.wasm_tree.specs.declared.failure.ModuleRule.TheVariants as rule
+use Rattle.std.proofs.lemmas.Bool.{eqb-true, eqb-false, leb-true, ltb-true, lt-ltb, cases_Bool}
 use Rattle.wasm_tree.specs.declared.module.ValType.{ValType}
 use Rattle.wasm_tree.specs.declared.module.ValType.TheVariants.{I32, I64}
-use Rattle.wasm_tree.specs.declared.module.FuncBody.{FuncBody}
 use Rattle.wasm_tree.specs.declared.instr.Instr.{Instr}
 use Rattle.wasm_tree.specs.declared.instr.Instr.TheVariants as instr
-use Rattle.wasm_tree.specs.Opcode.{load_opcode, store_opcode, test_opcode, compare_opcode, unary_opcode, binary_opcode, convert_opcode}
-use Rattle.wasm_tree.specs.Spelled.{Joined, Begins, Each, Index, Signed, Vector, Place, LocalRuns, Body, result_byte, Instruction, most_open, IsClosed, Expression}
+use Rattle.wasm_tree.specs.Opcode.{opcode_of}
+use Rattle.wasm_tree.specs.Control.{most_open, opened, after_instruction}
+use Rattle.wasm_tree.specs.Spelled.{Begins, Vector, Index, type_byte, Signed, MemoryArgument, result_byte, Immediates, Instruction}
 use Rattle.wasm_reader.specs.declared.fault.Fault.{Fault}
-use Rattle.wasm_reader.specs.declared.form.Bare.{Bare}
-use Rattle.wasm_reader.specs.declared.form.Bare.TheVariants as bare
-use Rattle.wasm_reader.specs.declared.form.Opening.{Opening}
-use Rattle.wasm_reader.specs.declared.form.Opening.TheVariants as opening
-use Rattle.wasm_reader.specs.declared.form.Indexed.{Indexed}
-use Rattle.wasm_reader.specs.declared.form.Indexed.TheVariants as indexed
-use Rattle.wasm_reader.specs.declared.form.Form.{Form}
-use Rattle.wasm_reader.specs.declared.form.Form.TheVariants as form
-use Rattle.wasm_reader.specs.Fault.{IsTooDeep}
-use Rattle.wasm_reader.specs.Reading.{◌>>=◌, at, byte_at, index_at, signed_at, vector_at, filled_at, type_at, block_type_at, place_at, local_runs_at, form_of, rest_at, bare_instr, opening_instr, indexed_instr, instruction_at, opens, room_at, follow_at, code_from, expression_at, body_at}
+use Rattle.wasm_reader.specs.Fault.{IsTooDeep, OtherByte, InTurn, NoIndex, NoNumber, NoVector, NoImmediate, IsResult as IsResultByte}
+use Rattle.wasm_reader.specs.Samples.{samples, sample_of}
+use Rattle.wasm_reader.specs.Reading.{◌>>=◌, at, byte_at, index_at, signed_at, type_at, block_type_at, place_at, labels_at, immediates_at, like_at, behind_at, instruction_at, opens, room_at}
 use Rattle.wasm_reader.proofs.Steps.{ok_is}
-use Rattle.wasm_reader.proofs.Laws.{Taken, Spells, Then, Mapped, bind_ok, chosen, then-spells, map-spells, as-spells, byte-spells, none-spells, begins-spells, vector-spells, filled-spells, fills}
-use Rattle.wasm_reader.proofs.NumberLaws.{both_true, index-spells, signed-spells}
-use Rattle.wasm_reader.proofs.PartLaws.{pure-spells, alone, type-spells, local_runs-spells, place-spells}
-use Rattle.wasm_reader.proofs.Forms.{bare_opcode, opening_opcode, indexed_opcode, opcode_of, is_known, form-opcode, bare-form, load-form, store-form, opening-form, indexed-form, other-forms}
+use Rattle.wasm_reader.proofs.Laws.{Taken, Spells, Mapped, bind_ok, chosen, byte-spells}
+use Rattle.wasm_reader.proofs.NumberLaws.{both_true, signed-spells}
+use Rattle.wasm_reader.proofs.FaultLaws.{bind_err, missing_byte, signed-breaks}
+use Rattle.wasm_reader.proofs.Choices.{type-reads}
+use Rattle.wasm_reader.proofs.Fields.{Reads, index-reads, map-reads, pure-reads, ended-reads}
+use Rattle.wasm_reader.proofs.Records.{Labels, labels-reads, place-reads}
+use Rattle.wasm_reader.proofs.Opcodes.{sample-opcode, sample_like, sample-of}
 
 -- ---- the result of a sequence
 
@@ -48,149 +42,154 @@ block_type-spells = record { found = found; again = again } where
             (record { front = 0x40 ∷ []; whole = u.whole ∙ ap (λ (l : List ℕ). l ++ a.0.1) (u.spelled ∙ ap (λ (x : ℕ). x ∷ []) b-is); spelled = refl })
         | inr h ↦
             let b = bind_ok (type_at bytes) (λ t. Ok (Some t.0, t.1)) (t, rest) h.1 in
-            let u = type-spells.found bytes b.0.0 b.0.1 b.1 in
+            let u = type-reads.spells.found bytes b.0.0 b.0.1 b.1 in
             subst (λ (q : Option ValType × List ℕ). Taken IsResult bytes q.0 q.1) (ok_is (Some b.0.0, b.0.1) (t, rest) b.2)
             (record { front = u.front; whole = u.whole; spelled = u.spelled })
       ]
 
   again : (t : Option ValType) (front rest : List ℕ) → IsResult t front → block_type_at (front ++ rest) ≡ Ok (t, rest)
   again None front rest h = rw (h, byte-spells.again 0x40 (0x40 ∷ []) rest refl) refl
-  again (Some I32) front rest h = rw (h, byte-spells.again 0x7F (0x7F ∷ []) rest refl, type-spells.again I32 (0x7F ∷ []) rest refl) refl
-  again (Some I64) front rest h = rw (h, byte-spells.again 0x7E (0x7E ∷ []) rest refl, type-spells.again I64 (0x7E ∷ []) rest refl) refl
+  again (Some I32) front rest h = rw (h, byte-spells.again 0x7F (0x7F ∷ []) rest refl, type-reads.spells.again I32 (0x7F ∷ []) rest refl) refl
+  again (Some I64) front rest h = rw (h, byte-spells.again 0x7E (0x7E ∷ []) rest refl, type-reads.spells.again I64 (0x7E ∷ []) rest refl) refl
+
+head_is : (c b : ℕ) (bytes rest : List ℕ) → c ∷ bytes ≡ b ∷ rest → c ≡ b
+head_is c b bytes rest e = cc
+
+block_type-both : (bytes : List ℕ) (x : Fault) → block_type_at bytes ≡ Err x → OtherByte IsResultByte x.rule x.left bytes × (x.left ≤ length bytes)
+unfolding block_type_at
+block_type-both bytes x e =
+    elim (bind_err (byte_at bytes) (λ b. cond (eqb b.0 0x40) (Ok (None, b.1)) (type_at bytes >>= λ t. Ok (Some t.0, t.1))) x e) [
+      | inl h ↦ missing_byte IsResultByte bytes x h
+      | inr h ↦
+          elim (chosen (eqb h.0.0 0x40) _ (type_at bytes >>= λ t. Ok (Some t.0, t.1)) (Err x) h.2) [
+            | inl k ↦ absurd (cc k.1)
+            | inr k ↦
+                elim (bind_err (type_at bytes) (λ t. Ok (Some t.0, t.1)) x k.1) [
+                  | inl l ↦ (widened bytes x h.0.0 h.0.1 (byte-spells.found bytes h.0.0 h.0.1 h.1) (eqb-false h.0.0 0x40 k.0) (type-reads.breaks.fails bytes x l), type-reads.breaks.within bytes x l)
+                  | inr l ↦ absurd (cc l.2)
+                ]
+          ]
+    ] where
+      widened : (bytes : List ℕ) (x : Fault) (b : ℕ) (rest : List ℕ) → Taken (λ b bytes. bytes ≡ b ∷ []) bytes b rest → (b ≡ 0x40 → ⊥) → OtherByte (λ b. (t : ValType) × (b ≡ type_byte t)) x.rule x.left bytes → OtherByte IsResultByte x.rule x.left bytes
+      widened [] x b rest t apart o = o
+      widened (c ∷ bytes) x b rest t apart o = (o.0, o.1, none) where
+        none : IsResultByte c → ⊥
+        none (None, e) = apart (sym (head_is c b bytes rest (t.whole ∙ ap (λ (l : List ℕ). l ++ rest) t.spelled)) ∙ e)
+        none (Some u, e) = o.2 (u, e)
+
+block_type-reads : Reads IsResult (OtherByte IsResultByte) block_type_at
+block_type-reads = record { spells = block_type-spells; breaks = record { fails = λ bytes x e. (block_type-both bytes x e).0; within = λ bytes x e. (block_type-both bytes x e).1 } }
 
 -- ---- instructions
 
--- what stands behind an opcode of this form
-abbrev pub Behind : Form → Instr → List ℕ → Type 0
-Behind form.Unknown i bytes = ⊥
-Behind (form.Bare f) i bytes = (i ≡ bare_instr f) × (bytes ≡ [])
-Behind (form.Opening f) i bytes = Mapped (opening_instr f) IsResult i bytes
-Behind (form.Indexed f) i bytes = Mapped (indexed_instr f) Index i bytes
-Behind (form.Load op) i bytes = Mapped (instr.Load op) Place i bytes
-Behind (form.Store op) i bytes = Mapped (instr.Store op) Place i bytes
-Behind form.BrTable i bytes = Then (Vector Index) (λ labels. Mapped (instr.BrTable labels) Index) i bytes
-Behind form.MemorySize i bytes = Begins 0x00 (λ bytes. (i ≡ instr.MemorySize) × (bytes ≡ [])) bytes
-Behind form.I32Const i bytes = Mapped instr.I32Const (Signed 32) i bytes
-Behind form.I64Const i bytes = Mapped instr.I64Const (Signed 64) i bytes
+-- what stands behind the opcode of an instruction like this one
+abbrev pub Behind : Instr → Instr → List ℕ → Type 0
+Behind (instr.Block _) i bytes = Mapped instr.Block IsResult i bytes
+Behind (instr.Loop _) i bytes = Mapped instr.Loop IsResult i bytes
+Behind (instr.If _) i bytes = Mapped instr.If IsResult i bytes
+Behind (instr.Br _) i bytes = Mapped instr.Br Index i bytes
+Behind (instr.BrIf _) i bytes = Mapped instr.BrIf Index i bytes
+Behind (instr.BrTable _) i bytes = Mapped instr.BrTable Labels i bytes
+Behind (instr.Call _) i bytes = Mapped instr.Call Index i bytes
+Behind (instr.LocalGet _) i bytes = Mapped instr.LocalGet Index i bytes
+Behind (instr.LocalSet _) i bytes = Mapped instr.LocalSet Index i bytes
+Behind (instr.LocalTee _) i bytes = Mapped instr.LocalTee Index i bytes
+Behind (instr.GlobalGet _) i bytes = Mapped instr.GlobalGet Index i bytes
+Behind (instr.GlobalSet _) i bytes = Mapped instr.GlobalSet Index i bytes
+Behind (instr.I32Const _) i bytes = Mapped instr.I32Const (Signed 32) i bytes
+Behind (instr.I64Const _) i bytes = Mapped instr.I64Const (Signed 64) i bytes
+Behind (instr.Load op _) i bytes = Mapped (instr.Load op) MemoryArgument i bytes
+Behind (instr.Store op _) i bytes = Mapped (instr.Store op) MemoryArgument i bytes
+Behind instr.MemorySize i bytes = (i ≡ instr.MemorySize) × (bytes ≡ 0x00 ∷ [])
+Behind like i bytes = (i ≡ like) × (bytes ≡ [])
 
-rest-spells : (start : ℕ) (f : Form) → Spells (Behind f) (rest_at start f)
-rest-spells start form.Unknown = none-spells (at rule.Opcode start)
-rest-spells start (form.Bare f) = pure-spells (bare_instr f)
-rest-spells start (form.Opening f) = map-spells (opening_instr f) IsResult block_type_at block_type-spells
-rest-spells start (form.Indexed f) = map-spells (indexed_instr f) Index index_at index-spells
-rest-spells start (form.Load op) = map-spells (instr.Load op) Place place_at place-spells
-rest-spells start (form.Store op) = map-spells (instr.Store op) Place place_at place-spells
-rest-spells start form.BrTable =
-    then-spells (Vector Index) (λ labels. Mapped (instr.BrTable labels) Index) (vector_at index_at) (λ whole labels rest. index_at rest >>= λ other. Ok (instr.BrTable labels other.0, other.1)) (vector-spells Index index_at index-spells index-spells)
-    (λ whole labels. map-spells (instr.BrTable labels) Index index_at index-spells)
-rest-spells start form.MemorySize = begins-spells 0x00 (λ i bytes. (i ≡ instr.MemorySize) × (bytes ≡ [])) (λ rest. Ok (instr.MemorySize, rest)) (pure-spells instr.MemorySize)
-rest-spells start form.I32Const = map-spells instr.I32Const (Signed 32) (signed_at 32) (signed-spells 32)
-rest-spells start form.I64Const = map-spells instr.I64Const (Signed 64) (signed_at 64) (signed-spells 64)
+pub immediates-reads : (like : Instr) → Reads (Behind like) (NoImmediate like) (immediates_at like)
+immediates-reads (instr.Block _) = map-reads instr.Block IsResult (OtherByte IsResultByte) block_type_at block_type-reads
+immediates-reads (instr.Loop _) = map-reads instr.Loop IsResult (OtherByte IsResultByte) block_type_at block_type-reads
+immediates-reads (instr.If _) = map-reads instr.If IsResult (OtherByte IsResultByte) block_type_at block_type-reads
+immediates-reads (instr.Br _) = map-reads instr.Br Index NoIndex index_at index-reads
+immediates-reads (instr.BrIf _) = map-reads instr.BrIf Index NoIndex index_at index-reads
+immediates-reads (instr.Call _) = map-reads instr.Call Index NoIndex index_at index-reads
+immediates-reads (instr.LocalGet _) = map-reads instr.LocalGet Index NoIndex index_at index-reads
+immediates-reads (instr.LocalSet _) = map-reads instr.LocalSet Index NoIndex index_at index-reads
+immediates-reads (instr.LocalTee _) = map-reads instr.LocalTee Index NoIndex index_at index-reads
+immediates-reads (instr.GlobalGet _) = map-reads instr.GlobalGet Index NoIndex index_at index-reads
+immediates-reads (instr.GlobalSet _) = map-reads instr.GlobalSet Index NoIndex index_at index-reads
+immediates-reads (instr.BrTable _) = map-reads instr.BrTable Labels (InTurn (NoVector Index NoIndex) (Vector Index) (λ _. NoIndex)) labels_at labels-reads
+immediates-reads (instr.Load op _) = map-reads (instr.Load op) MemoryArgument (InTurn NoIndex Index (λ _. NoIndex)) place_at place-reads
+immediates-reads (instr.Store op _) = map-reads (instr.Store op) MemoryArgument (InTurn NoIndex Index (λ _. NoIndex)) place_at place-reads
+immediates-reads instr.MemorySize = ended-reads 0x00 instr.MemorySize
+immediates-reads (instr.I32Const _) = map-reads instr.I32Const (Signed 32) (NoNumber (Signed 32)) (signed_at 32) (record { spells = signed-spells 32; breaks = signed-breaks 32 (omega arith) })
+immediates-reads (instr.I64Const _) = map-reads instr.I64Const (Signed 64) (NoNumber (Signed 64)) (signed_at 64) (record { spells = signed-spells 64; breaks = signed-breaks 64 (omega arith) })
+immediates-reads like = pure-reads like
 
-abbrev pub Parted : Instr → List ℕ → Type 0
-Parted = Then (λ b bytes. bytes ≡ b ∷ []) (λ b. Behind (form_of b))
+to-immediates : (like i : Instr) (bytes : List ℕ) → Behind like i bytes → (opcode_of i ≡ opcode_of like) × Immediates i bytes
+to-immediates (instr.Block _) i bytes h = rw h.1 (refl, h.2)
+to-immediates (instr.Loop _) i bytes h = rw h.1 (refl, h.2)
+to-immediates (instr.If _) i bytes h = rw h.1 (refl, h.2)
+to-immediates (instr.Br _) i bytes h = rw h.1 (refl, h.2)
+to-immediates (instr.BrIf _) i bytes h = rw h.1 (refl, h.2)
+to-immediates (instr.BrTable _) i bytes h = rw h.1 (refl, h.2)
+to-immediates (instr.Call _) i bytes h = rw h.1 (refl, h.2)
+to-immediates (instr.LocalGet _) i bytes h = rw h.1 (refl, h.2)
+to-immediates (instr.LocalSet _) i bytes h = rw h.1 (refl, h.2)
+to-immediates (instr.LocalTee _) i bytes h = rw h.1 (refl, h.2)
+to-immediates (instr.GlobalGet _) i bytes h = rw h.1 (refl, h.2)
+to-immediates (instr.GlobalSet _) i bytes h = rw h.1 (refl, h.2)
+to-immediates (instr.I32Const _) i bytes h = rw h.1 (refl, h.2)
+to-immediates (instr.I64Const _) i bytes h = rw h.1 (refl, h.2)
+to-immediates (instr.Load op _) i bytes h = rw h.1 (refl, h.2)
+to-immediates (instr.Store op _) i bytes h = rw h.1 (refl, h.2)
+to-immediates like i bytes h = rw h.0 (refl, h.1)
 
--- an opcode and what stands behind it are an instruction
-joined : (b d : ℕ) (front back bytes : List ℕ) → bytes ≡ front ++ back → front ≡ b ∷ [] → b ≡ d → bytes ≡ d ∷ back
-joined b d front back bytes w f e = rw (w, f, e) refl
+of-immediates : (i : Instr) (bytes : List ℕ) → Immediates i bytes → Behind (sample_like i) i bytes
+of-immediates (instr.Block x) bytes h = (x, refl, h)
+of-immediates (instr.Loop x) bytes h = (x, refl, h)
+of-immediates (instr.If x) bytes h = (x, refl, h)
+of-immediates (instr.Br x) bytes h = (x, refl, h)
+of-immediates (instr.BrIf x) bytes h = (x, refl, h)
+of-immediates (instr.BrTable x) bytes h = (x, refl, h)
+of-immediates (instr.Call x) bytes h = (x, refl, h)
+of-immediates (instr.LocalGet x) bytes h = (x, refl, h)
+of-immediates (instr.LocalSet x) bytes h = (x, refl, h)
+of-immediates (instr.LocalTee x) bytes h = (x, refl, h)
+of-immediates (instr.GlobalGet x) bytes h = (x, refl, h)
+of-immediates (instr.GlobalSet x) bytes h = (x, refl, h)
+of-immediates (instr.I32Const x) bytes h = (x, refl, h)
+of-immediates (instr.I64Const x) bytes h = (x, refl, h)
+of-immediates (instr.Load op x) bytes h = (x, refl, h)
+of-immediates (instr.Store op x) bytes h = (x, refl, h)
+of-immediates i bytes h = (refl, h)
 
-pub to-instruction : (i : Instr) (b : ℕ) (f : Form) (back bytes : List ℕ) → (is_known f ≡ true → b ≡ opcode_of f) → bytes ≡ b ∷ back → Behind f i back → Instruction i bytes
-to-instruction i b form.Unknown back bytes is w h = absurd h
-to-instruction i b (form.Bare f) back bytes is w h = rw h.0 (bare-case f (w ∙ ap (λ (l : List ℕ). b ∷ l) h.1 ∙ ap (λ (x : ℕ). x ∷ []) (is refl))) where
-  bare-case : (f : Bare) → bytes ≡ bare_opcode f ∷ [] → Instruction (bare_instr f) bytes
-  bare-case bare.Unreachable e = e
-  bare-case bare.Nop e = e
-  bare-case bare.Else e = e
-  bare-case bare.End e = e
-  bare-case bare.Return e = e
-  bare-case bare.Drop e = e
-  bare-case bare.Select e = e
-  bare-case (bare.Test t) e = e
-  bare-case (bare.Compare t op) e = e
-  bare-case (bare.Unary t op) e = e
-  bare-case (bare.Binary t op) e = e
-  bare-case (bare.Convert op) e = e
-to-instruction i b (form.Opening f) back bytes is w h =
-    rw h.1 (opening-case f h.0 (w ∙ ap (λ (l : List ℕ). b ∷ l) h.2 ∙ ap (λ (x : ℕ). x ∷ result_byte h.0 ∷ []) (is refl))) where
-      opening-case : (f : Opening) (t : Option ValType) → bytes ≡ opening_opcode f ∷ result_byte t ∷ [] → Instruction (opening_instr f t) bytes
-      opening-case opening.Block t e = e
-      opening-case opening.Loop t e = e
-      opening-case opening.If t e = e
-to-instruction i b (form.Indexed f) back bytes is w h =
-    rw h.1 (indexed-case f h.0 (record { front = indexed_opcode f ∷ []; back = back; whole = w ∙ ap (λ (x : ℕ). x ∷ back) (is refl); first = refl; second = h.2 })) where
-      indexed-case : (f : Indexed) (n : ℕ) → Begins (indexed_opcode f) (Index n) bytes → Instruction (indexed_instr f n) bytes
-      indexed-case indexed.Br n e = e
-      indexed-case indexed.BrIf n e = e
-      indexed-case indexed.Call n e = e
-      indexed-case indexed.LocalGet n e = e
-      indexed-case indexed.LocalSet n e = e
-      indexed-case indexed.LocalTee n e = e
-      indexed-case indexed.GlobalGet n e = e
-      indexed-case indexed.GlobalSet n e = e
-to-instruction i b (form.Load op) back bytes is w h = rw h.1 (record { front = load_opcode op ∷ []; back = back; whole = w ∙ ap (λ (x : ℕ). x ∷ back) (is refl); first = refl; second = h.2 })
-to-instruction i b (form.Store op) back bytes is w h = rw h.1 (record { front = store_opcode op ∷ []; back = back; whole = w ∙ ap (λ (x : ℕ). x ∷ back) (is refl); first = refl; second = h.2 })
-to-instruction i b form.BrTable back bytes is w (labels, j) =
-    rw j.second.1 (record { front = 0x0E ∷ []; back = back; whole = w ∙ ap (λ (x : ℕ). x ∷ back) (is refl); first = refl; second = record { front = j.front; back = j.back; whole = j.whole; first = j.first; second = j.second.2 } })
-to-instruction i b form.MemorySize back bytes is w h =
-    rw h.second.0 (w ∙ ap (λ (x : ℕ). x ∷ back) (is refl) ∙ ap (λ (l : List ℕ). 0x3F ∷ l) (alone 0x00 back (record { front = h.front; back = h.back; whole = h.whole; first = h.first; second = h.second.1 })))
-to-instruction i b form.I32Const back bytes is w h = rw h.1 (record { front = 0x41 ∷ []; back = back; whole = w ∙ ap (λ (x : ℕ). x ∷ back) (is refl); first = refl; second = h.2 })
-to-instruction i b form.I64Const back bytes is w h = rw h.1 (record { front = 0x42 ∷ []; back = back; whole = w ∙ ap (λ (x : ℕ). x ∷ back) (is refl); first = refl; second = h.2 })
+-- the byte that begins an instruction, and the bytes behind it
+pub begins_with : (byte : ℕ) (P : List ℕ → Type 0) (bytes : List ℕ) (h : Begins byte P bytes) → bytes ≡ byte ∷ h.back
+begins_with byte P bytes h = h.whole ∙ ap (λ (l : List ℕ). l ++ h.back) h.first
 
--- the parts of an instruction with this opcode and form
-parted : (i : Instr) (b : ℕ) (f : Form) (back bytes : List ℕ) → form_of b ≡ f → bytes ≡ b ∷ back → Behind f i back → Parted i bytes
-parted i b f back bytes is w h = (b, record { front = b ∷ []; back = back; whole = w; first = refl; second = rw is h })
-
-parted-joined : (i : Instr) (b : ℕ) (f : Form) (P : List ℕ → Type 0) (bytes : List ℕ) → form_of b ≡ f → Begins b P bytes → ((back : List ℕ) → P back → Behind f i back) → Parted i bytes
-parted-joined i b f P bytes is h to = parted i b f h.back bytes is (h.whole ∙ ap (λ (l : List ℕ). l ++ h.back) h.first) (to h.back h.second)
-
-pub of-instruction : (i : Instr) (bytes : List ℕ) → Instruction i bytes → Parted i bytes
-of-instruction instr.Unreachable bytes h = parted instr.Unreachable 0x00 (form.Bare bare.Unreachable) [] bytes (bare-form bare.Unreachable) h (refl, refl)
-of-instruction instr.Nop bytes h = parted instr.Nop 0x01 (form.Bare bare.Nop) [] bytes (bare-form bare.Nop) h (refl, refl)
-of-instruction (instr.Block t) bytes h = parted (instr.Block t) 0x02 (form.Opening opening.Block) (result_byte t ∷ []) bytes (opening-form opening.Block) h (t, refl, refl)
-of-instruction (instr.Loop t) bytes h = parted (instr.Loop t) 0x03 (form.Opening opening.Loop) (result_byte t ∷ []) bytes (opening-form opening.Loop) h (t, refl, refl)
-of-instruction (instr.If t) bytes h = parted (instr.If t) 0x04 (form.Opening opening.If) (result_byte t ∷ []) bytes (opening-form opening.If) h (t, refl, refl)
-of-instruction instr.Else bytes h = parted instr.Else 0x05 (form.Bare bare.Else) [] bytes (bare-form bare.Else) h (refl, refl)
-of-instruction instr.End bytes h = parted instr.End 0x0B (form.Bare bare.End) [] bytes (bare-form bare.End) h (refl, refl)
-of-instruction (instr.Br n) bytes h = parted-joined (instr.Br n) 0x0C (form.Indexed indexed.Br) (Index n) bytes (indexed-form indexed.Br) h (λ back p. (n, refl, p))
-of-instruction (instr.BrIf n) bytes h = parted-joined (instr.BrIf n) 0x0D (form.Indexed indexed.BrIf) (Index n) bytes (indexed-form indexed.BrIf) h (λ back p. (n, refl, p))
-of-instruction (instr.BrTable labels n) bytes h =
-    parted-joined (instr.BrTable labels n) 0x0E form.BrTable (Joined (Vector Index labels) (Index n)) bytes other-forms.0 h (λ back p. (labels, record { front = p.front; back = p.back; whole = p.whole; first = p.first; second = (n, refl, p.second) }))
-of-instruction instr.Return bytes h = parted instr.Return 0x0F (form.Bare bare.Return) [] bytes (bare-form bare.Return) h (refl, refl)
-of-instruction (instr.Call n) bytes h = parted-joined (instr.Call n) 0x10 (form.Indexed indexed.Call) (Index n) bytes (indexed-form indexed.Call) h (λ back p. (n, refl, p))
-of-instruction instr.Drop bytes h = parted instr.Drop 0x1A (form.Bare bare.Drop) [] bytes (bare-form bare.Drop) h (refl, refl)
-of-instruction instr.Select bytes h = parted instr.Select 0x1B (form.Bare bare.Select) [] bytes (bare-form bare.Select) h (refl, refl)
-of-instruction (instr.LocalGet n) bytes h = parted-joined (instr.LocalGet n) 0x20 (form.Indexed indexed.LocalGet) (Index n) bytes (indexed-form indexed.LocalGet) h (λ back p. (n, refl, p))
-of-instruction (instr.LocalSet n) bytes h = parted-joined (instr.LocalSet n) 0x21 (form.Indexed indexed.LocalSet) (Index n) bytes (indexed-form indexed.LocalSet) h (λ back p. (n, refl, p))
-of-instruction (instr.LocalTee n) bytes h = parted-joined (instr.LocalTee n) 0x22 (form.Indexed indexed.LocalTee) (Index n) bytes (indexed-form indexed.LocalTee) h (λ back p. (n, refl, p))
-of-instruction (instr.GlobalGet n) bytes h = parted-joined (instr.GlobalGet n) 0x23 (form.Indexed indexed.GlobalGet) (Index n) bytes (indexed-form indexed.GlobalGet) h (λ back p. (n, refl, p))
-of-instruction (instr.GlobalSet n) bytes h = parted-joined (instr.GlobalSet n) 0x24 (form.Indexed indexed.GlobalSet) (Index n) bytes (indexed-form indexed.GlobalSet) h (λ back p. (n, refl, p))
-of-instruction (instr.Load op place) bytes h = parted-joined (instr.Load op place) (load_opcode op) (form.Load op) (Place place) bytes (load-form op) h (λ back p. (place, refl, p))
-of-instruction (instr.Store op place) bytes h = parted-joined (instr.Store op place) (store_opcode op) (form.Store op) (Place place) bytes (store-form op) h (λ back p. (place, refl, p))
-of-instruction instr.MemorySize bytes h = parted instr.MemorySize 0x3F form.MemorySize (0x00 ∷ []) bytes other-forms.1 h (record { front = 0x00 ∷ []; back = []; whole = refl; first = refl; second = (refl, refl) })
-of-instruction (instr.I32Const z) bytes h = parted-joined (instr.I32Const z) 0x41 form.I32Const (Signed 32 z) bytes other-forms.2 h (λ back p. (z, refl, p))
-of-instruction (instr.I64Const z) bytes h = parted-joined (instr.I64Const z) 0x42 form.I64Const (Signed 64 z) bytes other-forms.3 h (λ back p. (z, refl, p))
-of-instruction (instr.Test t) bytes h = parted (instr.Test t) (test_opcode t) (form.Bare (bare.Test t)) [] bytes (bare-form (bare.Test t)) h (refl, refl)
-of-instruction (instr.Compare t op) bytes h = parted (instr.Compare t op) (compare_opcode t op) (form.Bare (bare.Compare t op)) [] bytes (bare-form (bare.Compare t op)) h (refl, refl)
-of-instruction (instr.Unary t op) bytes h = parted (instr.Unary t op) (unary_opcode t op) (form.Bare (bare.Unary t op)) [] bytes (bare-form (bare.Unary t op)) h (refl, refl)
-of-instruction (instr.Binary t op) bytes h = parted (instr.Binary t op) (binary_opcode t op) (form.Bare (bare.Binary t op)) [] bytes (bare-form (bare.Binary t op)) h (refl, refl)
-of-instruction (instr.Convert op) bytes h = parted (instr.Convert op) (convert_opcode op) (form.Bare (bare.Convert op)) [] bytes (bare-form (bare.Convert op)) h (refl, refl)
+like-found : (start : ℕ) (o : Option Instr) (bytes : List ℕ) (i : Instr) (rest : List ℕ) → like_at start o bytes ≡ Ok (i, rest) → (like : Instr) × (o ≡ Some like) × Taken (Behind like) bytes i rest
+like-found start None bytes i rest e = absurd cc
+like-found start (Some like) bytes i rest e = (like, refl, (immediates-reads like).spells.found bytes i rest e)
 
 pub instruction-spells : Spells Instruction instruction_at
-unfolding instruction_at
-instruction-spells =
-    as-spells Parted Instruction instruction_at
-    (then-spells (λ b bytes. bytes ≡ b ∷ []) (λ b. Behind (form_of b)) byte_at (λ whole b. rest_at (length whole) (form_of b)) byte-spells (λ whole b. rest-spells (length whole) (form_of b)))
-    (λ i bytes h. to-instruction i h.0 (form_of h.0) h.1.back bytes (form-opcode h.0) (h.1.whole ∙ ap (λ (l : List ℕ). l ++ h.1.back) h.1.first) h.1.second)
-    of-instruction
+unfolding instruction_at behind_at byte_at
+instruction-spells = record {
+  found = λ bytes i rest e.
+      let a = bind_ok (byte_at bytes) (λ b. behind_at (length bytes) b.0 b.1) (i, rest) e in
+      let t = byte-spells.found bytes a.0.0 a.0.1 a.1 in
+      let l = like-found (length bytes) (sample_of a.0.0) a.0.1 i rest a.2 in
+      let p = to-immediates l.0 i l.2.front l.2.spelled in
+      let opcode : a.0.0 ≡ opcode_of i = sym (p.0 ∙ sample-opcode a.0.0 l.0 l.1) in
+      record {
+        front = a.0.0 ∷ l.2.front;
+        whole = t.whole ∙ ap (λ (l : List ℕ). l ++ a.0.1) t.spelled ∙ ap (λ (l : List ℕ). a.0.0 ∷ l) l.2.whole;
+        spelled = record { front = a.0.0 ∷ []; back = l.2.front; whole = refl; first = ap (λ (x : ℕ). x ∷ []) opcode; second = p.1 };
+      };
+  again = λ i front rest h.
+      let regrouped : front ++ rest ≡ opcode_of i ∷ (h.back ++ rest) = ap (λ (l : List ℕ). l ++ rest) (begins_with (opcode_of i) (Immediates i) front h) in
+      let one : immediates_at (sample_like i) (h.back ++ rest) ≡ Ok (i, rest) = (immediates-reads (sample_like i)).spells.again i h.back rest (of-immediates i h.back h.second) in
+      rw (regrouped, sample-of i) one;
+}
 
 -- ---- how deep sequences stand
-
--- the instruction opens no sequence, or there is room for one more
-abbrev pub HasRoom : List Bool → Instr → Type 0
-HasRoom arms (instr.Block t) = length arms < most_open
-HasRoom arms (instr.Loop t) = length arms < most_open
-HasRoom arms (instr.If t) = length arms < most_open
-HasRoom arms _ = Unit {0}
 
 three : (b : ℕ) → 0x02 ≤ b → b ≤ 0x04 → (b ≡ 0x02) ⊎ ((b ≡ 0x03) ⊎ (b ≡ 0x04))
 three b low high =
@@ -203,20 +202,20 @@ three b low high =
           ]
     ]
 
-pub too_deep : (arms : List Bool) (bytes : List ℕ) → (leb most_open (length arms) && opens bytes) ≡ true → IsTooDeep arms bytes
+pub too_deep : (arms : List Bool) (bytes : List ℕ) → (ltb most_open (length arms) && opens bytes) ≡ true → IsTooDeep arms bytes
 unfolding opens
-too_deep arms [] e = absurd (cc (both_true (leb most_open (length arms)) false e).1)
+too_deep arms [] e = absurd (cc (both_true (ltb most_open (length arms)) false e).1)
 too_deep arms (b ∷ bytes) e =
-    let t = both_true (leb most_open (length arms)) (leb 0x02 b && leb b 0x04) e in
+    let t = both_true (ltb most_open (length arms)) (leb 0x02 b && leb b 0x04) e in
     let u = both_true (leb 0x02 b) (leb b 0x04) t.1 in
-    (leb-true _ _ t.0, three b (leb-true _ _ u.0) (leb-true _ _ u.1))
+    (ltb-true _ _ t.0, three b (leb-true _ _ u.0) (leb-true _ _ u.1))
 
-is_deep : (arms : List Bool) (bytes : List ℕ) → IsTooDeep arms bytes → (leb most_open (length arms) && opens bytes) ≡ true
+is_deep : (arms : List Bool) (bytes : List ℕ) → IsTooDeep arms bytes → (ltb most_open (length arms) && opens bytes) ≡ true
 unfolding opens
 is_deep arms [] d = absurd d
-is_deep arms (b ∷ bytes) (le, inl e) = rw (le-leb most_open (length arms) le, e) refl
-is_deep arms (b ∷ bytes) (le, inr (inl e)) = rw (le-leb most_open (length arms) le, e) refl
-is_deep arms (b ∷ bytes) (le, inr (inr e)) = rw (le-leb most_open (length arms) le, e) refl
+is_deep arms (b ∷ bytes) (le, inl e) = rw (lt-ltb most_open (length arms) le, e) refl
+is_deep arms (b ∷ bytes) (le, inr (inl e)) = rw (lt-ltb most_open (length arms) le, e) refl
+is_deep arms (b ∷ bytes) (le, inr (inr e)) = rw (lt-ltb most_open (length arms) le, e) refl
 
 pub room-found : (arms : List Bool) (bytes : List ℕ) → room_at arms bytes ≡ Ok tt → IsTooDeep arms bytes → ⊥
 unfolding room_at
@@ -225,192 +224,49 @@ room-found arms bytes e d = absurd (cc (rw (is_deep arms bytes d) at e))
 pub room-again : (arms : List Bool) (bytes : List ℕ) → (IsTooDeep arms bytes → ⊥) → room_at arms bytes ≡ Ok tt
 unfolding room_at
 room-again arms bytes shallow =
-    elim (cases_Bool (leb most_open (length arms) && opens bytes)) [
+    elim (cases_Bool (ltb most_open (length arms) && opens bytes)) [
       | inl h ↦ absurd (shallow (too_deep arms bytes h))
       | inr h ↦ rw h refl
     ]
 
-has_room : (arms : List Bool) (b : ℕ) (rest : List ℕ) → (b ≡ 0x02) ⊎ ((b ≡ 0x03) ⊎ (b ≡ 0x04)) → (IsTooDeep arms (b ∷ rest) → ⊥) → length arms < most_open
-has_room arms b rest is shallow =
-    elim (cases_lt (length arms) most_open) [
-      | inl lt ↦ lt
-      | inr le ↦ absurd (shallow (le, is))
+begins_sample : (i : Instr) (b : ℕ) (like : Instr) → sample_of b ≡ Some like → b ≡ opcode_of i → sample_like i ≡ like
+begins_sample i b like e is = cc (sample-of i, ap sample_of is)
+
+open_room : (arm a : Bool) (arms next : List Bool) → opened arm (a ∷ arms) ≡ Some next → length (a ∷ arms) ≤ most_open
+open_room arm a arms next e =
+    elim (chosen (leb (length (a ∷ arms)) most_open) (Some (arm ∷ (a ∷ arms))) None (Some next) e) [
+      | inl h ↦ leb-true _ _ h.0
+      | inr h ↦ absurd (cc h.1)
     ]
 
--- where sequences don't stand too deep before an instruction, it has room, and the other way round
-pub room-to : (arms : List Bool) (i : Instr) (front rest : List ℕ) → Instruction i front → (IsTooDeep arms (front ++ rest) → ⊥) → HasRoom arms i
-room-to arms (instr.Block t) front rest h shallow = has_room arms 0x02 (result_byte t ∷ rest) (inl refl) (rw h at shallow)
-room-to arms (instr.Loop t) front rest h shallow = has_room arms 0x03 (result_byte t ∷ rest) (inr (inl refl)) (rw h at shallow)
-room-to arms (instr.If t) front rest h shallow = has_room arms 0x04 (result_byte t ∷ rest) (inr (inr refl)) (rw h at shallow)
-room-to arms i front rest h shallow = tt
+abbrev OpensSequence : Instr → Type 0
+OpensSequence (instr.Block t) = Unit {0}
+OpensSequence (instr.Loop t) = Unit {0}
+OpensSequence (instr.If t) = Unit {0}
+OpensSequence _ = ⊥
 
-no_room : (arms : List Bool) (f : Opening) (b : ℕ) (i : Instr) (back : List ℕ) → most_open ≤ length arms → HasRoom arms i → b ≡ opening_opcode f → Behind (form_of b) i back → ⊥
-no_room arms f b i back le room e h = full f (subst (λ (x : Form). Behind x i back) (ap form_of e ∙ opening-form f) h) where
-  full : (f : Opening) → Mapped (opening_instr f) IsResult i back → ⊥
-  full opening.Block m = let lt : length arms < most_open = subst (HasRoom arms) m.1 room in absurd (omega arith)
-  full opening.Loop m = let lt : length arms < most_open = subst (HasRoom arms) m.1 room in absurd (omega arith)
-  full opening.If m = let lt : length arms < most_open = subst (HasRoom arms) m.1 room in absurd (omega arith)
+opens-like : (i : Instr) → OpensSequence (sample_like i) → OpensSequence i
+opens-like (instr.Block t) h = tt
+opens-like (instr.Loop t) h = tt
+opens-like (instr.If t) h = tt
+opens-like i h = h
 
-pub room-of : (arms : List Bool) (i : Instr) (front rest : List ℕ) → Instruction i front → HasRoom arms i → IsTooDeep arms (front ++ rest) → ⊥
-room-of arms i front rest h room deep =
-    let p = of-instruction i front h in
-    let d = subst (λ (l : List ℕ). IsTooDeep arms (l ++ rest)) (p.1.whole ∙ ap (λ (l : List ℕ). l ++ p.1.back) p.1.first) deep in
-    elim d.1 [
-      | inl e ↦ no_room arms opening.Block p.0 i p.1.back d.0 room e p.1.second
-      | inr k ↦
-          elim k [
-            | inl e ↦ no_room arms opening.Loop p.0 i p.1.back d.0 room e p.1.second
-            | inr e ↦ no_room arms opening.If p.0 i p.1.back d.0 room e p.1.second
-          ]
-    ]
+opens-by : (i : Instr) (b : ℕ) → (b ≡ 0x02) ⊎ ((b ≡ 0x03) ⊎ (b ≡ 0x04)) → opcode_of i ≡ b → OpensSequence i
+unfolding sample_of samples
+opens-by i b (inl e) is = opens-like i (subst OpensSequence (sym (begins_sample i 0x02 (instr.Block None) refl (sym (is ∙ e)))) tt)
+opens-by i b (inr (inl e)) is = opens-like i (subst OpensSequence (sym (begins_sample i 0x03 (instr.Loop None) refl (sym (is ∙ e)))) tt)
+opens-by i b (inr (inr e)) is = opens-like i (subst OpensSequence (sym (begins_sample i 0x04 (instr.If None) refl (sym (is ∙ e)))) tt)
 
--- ---- code
+opens_within : (a : Bool) (arms next : List Bool) (i : Instr) → OpensSequence i → after_instruction (a ∷ arms) i ≡ Some next → length (a ∷ arms) ≤ most_open
+opens_within a arms next (instr.Block t) opens e = open_room false a arms next e
+opens_within a arms next (instr.Loop t) opens e = open_room false a arms next e
+opens_within a arms next (instr.If t) opens e = open_room true a arms next e
+opens_within a arms next i opens e = absurd opens
 
-abbrev Coded : List Bool → List Instr → List ℕ → Type 0
-Coded arms code bytes = Each Instruction code bytes × IsClosed arms code
-
-abbrev pub step : Bool → List Bool → Result (Bool × List Bool) Fault
-step b l = Ok (b, l)
-
-no_end : (l a : List Bool) → step false l ≡ step true a → ⊥
-no_end l a e = absurd (cc (ap (λ (q : Bool × List Bool). q.0) (ok_is (false, l) (true, a) e)))
-
-no_more : (l a : List Bool) → step true l ≡ step false a → ⊥
-no_more l a e = absurd (cc (ap (λ (q : Bool × List Bool). q.0) (ok_is (true, l) (false, a) e)))
-
-same : (l a : List Bool) → step false l ≡ step false a → l ≡ a
-same l a e = ap (λ (q : Bool × List Bool). q.1) (ok_is (false, l) (false, a) e)
-
-kept : (l a : List Bool) (code : List Instr) → step false l ≡ step false a → IsClosed a code → IsClosed l code
-kept l a code e h = subst (λ (x : List Bool). IsClosed x code) (sym (same l a e)) h
-
-follow-ends : (start : ℕ) (arms a : List Bool) (i : Instr) → follow_at start arms i ≡ Ok (true, a) → IsClosed arms (i ∷ [])
-follow-ends start [] a instr.End e = refl
-follow-ends start (arm ∷ arms) a instr.End e = absurd (no_end arms a e)
-follow-ends start [] a instr.Else e = absurd cc
-follow-ends start (false ∷ arms) a instr.Else e = absurd cc
-follow-ends start (true ∷ arms) a instr.Else e = absurd (no_end (false ∷ arms) a e)
-follow-ends start arms a (instr.Block t) e = absurd (no_end (false ∷ arms) a e)
-follow-ends start arms a (instr.Loop t) e = absurd (no_end (false ∷ arms) a e)
-follow-ends start arms a (instr.If t) e = absurd (no_end (true ∷ arms) a e)
-follow-ends start arms a i e = absurd (no_end arms a e)
-
-follow-goes : (start : ℕ) (arms a : List Bool) (i : Instr) (code : List Instr) → HasRoom arms i → follow_at start arms i ≡ Ok (false, a) → IsClosed a code → IsClosed arms (i ∷ code)
-follow-goes start [] a instr.End code room e h = absurd (no_more [] a e)
-follow-goes start (arm ∷ arms) a instr.End code room e h = kept arms a code e h
-follow-goes start [] a instr.Else code room e h = absurd cc
-follow-goes start (false ∷ arms) a instr.Else code room e h = absurd cc
-follow-goes start (true ∷ arms) a instr.Else code room e h = kept (false ∷ arms) a code e h
-follow-goes start arms a (instr.Block t) code room e h = (room, kept (false ∷ arms) a code e h)
-follow-goes start arms a (instr.Loop t) code room e h = (room, kept (false ∷ arms) a code e h)
-follow-goes start arms a (instr.If t) code room e h = (room, kept (true ∷ arms) a code e h)
-follow-goes start arms a i code room e h = kept arms a code e h
-
-follow-again : (start : ℕ) (arms : List Bool) (i : Instr) (code : List Instr) → IsClosed arms (i ∷ code)
-    → ((follow_at start arms i ≡ Ok (true, [])) × (code ≡ [])) ⊎ ((a : List Bool) × (follow_at start arms i ≡ Ok (false, a)) × IsClosed a code)
-follow-again start [] instr.End code h = inl (refl, h)
-follow-again start (arm ∷ arms) instr.End code h = inr (arms, refl, h)
-follow-again start [] instr.Else code h = absurd h
-follow-again start (false ∷ arms) instr.Else code h = absurd h
-follow-again start (true ∷ arms) instr.Else code h = inr (false ∷ arms, refl, h)
-follow-again start arms (instr.Block t) code h = inr (false ∷ arms, refl, h.1)
-follow-again start arms (instr.Loop t) code h = inr (false ∷ arms, refl, h.1)
-follow-again start arms (instr.If t) code h = inr (true ∷ arms, refl, h.1)
-follow-again start arms i code h = inr (arms, refl, h)
-
-closed-room : (arms : List Bool) (i : Instr) (code : List Instr) → IsClosed arms (i ∷ code) → HasRoom arms i
-closed-room [] (instr.Block t) code h = h.0
-closed-room (arm ∷ arms) (instr.Block t) code h = h.0
-closed-room [] (instr.Loop t) code h = h.0
-closed-room (arm ∷ arms) (instr.Loop t) code h = h.0
-closed-room [] (instr.If t) code h = h.0
-closed-room (arm ∷ arms) (instr.If t) code h = h.0
-closed-room arms i code h = tt
-
-code-found : (n : ℕ) (arms : List Bool) (bytes : List ℕ) (code : List Instr) (rest : List ℕ) → code_from n arms bytes ≡ Ok (code, rest) → Taken (Coded arms) bytes code rest
-unfolding code_from
-code-found zero arms bytes code rest e = absurd cc
-code-found (suc n) arms bytes code rest e =
-    let r = bind_ok (room_at arms bytes) (λ _. instruction_at bytes >>= λ i. follow_at (length bytes) arms i.0 >>= λ s. cond s.0 (Ok (i.0 ∷ [], i.1)) (code_from n s.1 i.1 >>= λ more. Ok (i.0 ∷ more.0, more.1))) (code, rest) e in
-    let a = bind_ok (instruction_at bytes) (λ i. follow_at (length bytes) arms i.0 >>= λ s. cond s.0 (Ok (i.0 ∷ [], i.1)) (code_from n s.1 i.1 >>= λ more. Ok (i.0 ∷ more.0, more.1))) (code, rest) r.2 in
-    let i : Instr = a.0.0 in
-    let s = bind_ok (follow_at (length bytes) arms i) (λ s. cond s.0 (Ok (i ∷ [], a.0.1)) (code_from n s.1 a.0.1 >>= λ more. Ok (i ∷ more.0, more.1))) (code, rest) a.2 in
-    let t = instruction-spells.found bytes i a.0.1 a.1 in
-    elim (chosen s.0.0 (Ok (i ∷ [], a.0.1)) (code_from n s.0.1 a.0.1 >>= λ more. Ok (i ∷ more.0, more.1)) (Ok (code, rest)) s.2) [
-      | inl h ↦
-          let follows : follow_at (length bytes) arms i ≡ Ok (true, s.0.1) = s.1 ∙ ap (λ (b : Bool). step b s.0.1) h.0 in
-          let single : Each Instruction (i ∷ []) t.front = record { front = t.front; back = []; whole = sym (append-nil t.front); first = t.spelled; second = refl } in
-          subst (λ (q : List Instr × List ℕ). Taken (Coded arms) bytes q.0 q.1) (ok_is (i ∷ [], a.0.1) (code, rest) h.1)
-          (record { front = t.front; whole = t.whole; spelled = (single, follow-ends (length bytes) arms s.0.1 i follows) })
-      | inr h ↦
-          let follows : follow_at (length bytes) arms i ≡ Ok (false, s.0.1) = s.1 ∙ ap (λ (b : Bool). step b s.0.1) h.0 in
-          let m = bind_ok (code_from n s.0.1 a.0.1) (λ more. Ok (i ∷ more.0, more.1)) (code, rest) h.1 in
-          let u = code-found n s.0.1 a.0.1 m.0.0 m.0.1 m.1 in
-          let room : HasRoom arms i = room-to arms i t.front a.0.1 t.spelled (λ d. room-found arms bytes r.1 (subst (IsTooDeep arms) (sym t.whole) d)) in
-          let both : Each Instruction (i ∷ m.0.0) (t.front ++ u.front) = record { front = t.front; back = u.front; whole = refl; first = t.spelled; second = u.spelled.0 } in
-          subst (λ (q : List Instr × List ℕ). Taken (Coded arms) bytes q.0 q.1) (ok_is (i ∷ m.0.0, m.0.1) (code, rest) m.2)
-          (record {
-            front = t.front ++ u.front;
-            whole = t.whole ∙ ap (λ (r : List ℕ). t.front ++ r) u.whole ∙ sym (append_assoc t.front u.front m.0.1);
-            spelled = (both, follow-goes (length bytes) arms s.0.1 i m.0.0 room follows u.spelled.1);
-          })
-    ]
-
-unclosed : (arms : List Bool) → IsClosed arms [] → ⊥
-unclosed [] h = h
-unclosed (arm ∷ arms) h = h
-
-code-again : (n : ℕ) (arms : List Bool) (code : List Instr) (front rest : List ℕ) → length code ≤ n → Each Instruction code front → IsClosed arms code → code_from n arms (front ++ rest) ≡ Ok (code, rest)
-unfolding code_from
-code-again n arms [] front rest le h closed = absurd (unclosed arms closed)
-code-again zero arms (i ∷ code) front rest le h closed = absurd (omega arith)
-code-again (suc n) arms (i ∷ code) front rest le h closed =
-    let regrouped : front ++ rest ≡ h.front ++ (h.back ++ rest) = ap (λ (l : List ℕ). l ++ rest) h.whole ∙ append_assoc h.front h.back rest in
-    let one : instruction_at (front ++ rest) ≡ Ok (i, h.back ++ rest) = ap instruction_at regrouped ∙ instruction-spells.again i h.front (h.back ++ rest) h.first in
-    let room : room_at arms (front ++ rest) ≡ Ok tt = room-again arms (front ++ rest) (λ d. room-of arms i h.front (h.back ++ rest) h.first (closed-room arms i code closed) (subst (IsTooDeep arms) regrouped d)) in
-    elim (follow-again (length (front ++ rest)) arms i code closed) [
-      | inl k ↦
-          let none : h.back ≡ [] = subst (λ (l : List Instr). Each Instruction l h.back) k.1 h.second in
-          let two : h.back ++ rest ≡ rest = ap (λ (l : List ℕ). l ++ rest) none in
-          rw (room, one, k.0, k.1, two) refl
-      | inr k ↦
-          let more : code_from n k.0 (h.back ++ rest) ≡ Ok (code, rest) = code-again n k.0 code h.back rest (omega arith) h.second k.2 in
-          rw (room, one, k.1, more) refl
-    ]
-
-each-length : (code : List Instr) (bytes : List ℕ) → Each Instruction code bytes → length code ≤ length bytes
-each-length [] bytes h = omega arith
-each-length (i ∷ code) bytes h =
-    let p = of-instruction i h.front h.first in
-    let some : length h.front ≡ 1 + length p.1.back = ap length (p.1.whole ∙ ap (λ (l : List ℕ). l ++ p.1.back) p.1.first) ∙ omega arith in
-    let rest = each-length code h.back h.second in
-    let whole : length bytes ≡ length h.front + length h.back = ap length h.whole ∙ length-append h.front h.back in
-    omega arith
-
-pub expression-spells : Spells Expression expression_at
-unfolding expression_at
-expression-spells = record {
-  found = λ bytes code rest e.
-      let t = code-found (length bytes) [] bytes code rest e in
-      record { front = t.front; whole = t.whole; spelled = record { spelled = t.spelled.0; closed = t.spelled.1 } };
-  again = λ code front rest h.
-      code-again (length (front ++ rest)) [] code front rest (omega (arith, length-append front rest, each-length code front h.spelled)) h.spelled h.closed;
-}
-
-abbrev pub Contents : FuncBody → List ℕ → Type 0
-Contents body = Joined (LocalRuns body.locals) (Expression body.code)
-
-pub contents-spells : Spells Contents body_at
-unfolding body_at
-contents-spells =
-    as-spells _ Contents body_at
-    (then-spells LocalRuns _ local_runs_at (λ whole locals rest. expression_at rest >>= λ code. Ok (record { locals = locals; code = code.0 }, code.1)) local_runs-spells
-    (λ whole locals. map-spells (λ code. record { locals = locals; code = code }) Expression expression_at expression-spells))
-    to
-    (λ x bytes h. (x.locals, record { front = h.front; back = h.back; whole = h.whole; first = h.first; second = (x.code, refl, h.second) }))
-  where
-    to : (x : FuncBody) (bytes : List ℕ) → Then LocalRuns (λ locals. Mapped (λ code. record { locals = locals; code = code }) Expression) x bytes → Contents x bytes
-    to x bytes (locals, h) = rw h.second.1 (record { front = h.front; back = h.back; whole = h.whole; first = h.first; second = h.second.2 })
-
-pub body-spells : Spells Body (filled_at body_at)
-body-spells = filled-spells Contents body_at index-spells (fills Contents body_at contents-spells)
+-- where an instruction may stand, it opens no sequence too deep
+pub room-of : (arms next : List Bool) (i : Instr) (front rest : List ℕ) → after_instruction arms i ≡ Some next → Instruction i front → IsTooDeep arms (front ++ rest) → ⊥
+room-of [] next i front rest e h deep = absurd cc
+room-of (a ∷ arms) next i front rest e h deep =
+    let d = subst (IsTooDeep (a ∷ arms)) (ap (λ (l : List ℕ). l ++ rest) (begins_with (opcode_of i) (Immediates i) front h)) deep in
+    let within : length (a ∷ arms) ≤ most_open = opens_within a arms next i (opens-by i (opcode_of i) d.1 refl) e in
+    absurd (omega (arith, d.0))

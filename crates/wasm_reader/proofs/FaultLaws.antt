@@ -12,7 +12,7 @@ use Rattle.wasm_tree.specs.declared.failure.ModuleRule.TheVariants as rule
 use Rattle.wasm_tree.specs.Spelled.{Joined, Begins, Each, Index, Signed}
 use Rattle.wasm_reader.specs.declared.fault.Fault.{Fault}
 use Rattle.wasm_reader.specs.Fault.{InTurn, OtherByte, Behind, NoNumber, NoIndex, NoVector, TooShort, IllFormed, NoText, NoName, Unfilled, NoneSized}
-use Rattle.wasm_reader.specs.Reading.{◌>>=◌, at, Reader, moved, byte_at, fixed_at, unsigned_from, index_at, signed_from, signed_at, each_at, vector_at, full_at, filled_at, text_at, name_at}
+use Rattle.wasm_reader.specs.Reading.{◌>>=◌, at, Reader, moved, byte_at, fixed_at, unsigned_from, index_at, signed_from, signed_at, each_at, vector_at, full_at, filled_at, take_at, text_at, utf8_at, name_at}
 use Rattle.wasm_reader.proofs.Steps.{ok_is}
 use Rattle.wasm_reader.proofs.Laws.{Taken, Spells, chosen, byte-spells, fixed-found}
 use Rattle.wasm_reader.proofs.NumberLaws.{both_true, index-spells, unsigned-found, unsigned-again, signed-found, signed-again}
@@ -43,24 +43,22 @@ pure-breaks x = record { fails = λ bytes y e. absurd cc; within = λ bytes y e.
 pub shorter : (bytes front back : List ℕ) (n : ℕ) → bytes ≡ front ++ back → n ≤ length back → n ≤ length bytes
 shorter bytes front back n e le = omega (arith, ap length e, length-append front back)
 
+-- by one proof of both
+pub breaks-by : {A : Type 0} (F : ModuleRule → ℕ → List ℕ → Type 0) (f : List ℕ → Result A Fault) → ((bytes : List ℕ) (x : Fault) → f bytes ≡ Err x → F x.rule x.left bytes × (x.left ≤ length bytes)) → Breaks F f
+breaks-by F f both = record { fails = λ bytes x e. (both bytes x e).0; within = λ bytes x e. (both bytes x e).1 }
+
+-- a part, or what stands behind it
 pub then-breaks : {A C : Type 0} (F : ModuleRule → ℕ → List ℕ → Type 0) (P : A → List ℕ → Type 0) (G : A → ModuleRule → ℕ → List ℕ → Type 0) (f : Reader A) (g : List ℕ → A → List ℕ → Result C Fault)
     → Spells P f → Breaks F f → ((whole : List ℕ) (x : A) → Breaks (G x) (g whole x)) → Breaks (InTurn F P G) (λ bytes. f bytes >>= λ x. g bytes x.0 x.1)
-then-breaks {A} {C} F P G f g sf bf bg = record {
-  fails = λ bytes x e.
-      elim (bind_err (f bytes) (λ y. g bytes y.0 y.1) x e) [
-        | inl h ↦ inl (bf.fails bytes x h)
-        | inr h ↦
-            let t = sf.found bytes h.0.0 h.0.1 h.1 in
-            inr (h.0.0, record { front = t.front; back = h.0.1; whole = t.whole; first = t.spelled; second = (bg bytes h.0.0).fails h.0.1 x h.2 })
-      ];
-  within = λ bytes x e.
-      elim (bind_err (f bytes) (λ y. g bytes y.0 y.1) x e) [
-        | inl h ↦ bf.within bytes x h
-        | inr h ↦
-            let t = sf.found bytes h.0.0 h.0.1 h.1 in
-            shorter bytes t.front h.0.1 x.left t.whole ((bg bytes h.0.0).within h.0.1 x h.2)
-      ];
-}
+then-breaks {A} {C} F P G f g sf bf bg =
+    breaks-by (InTurn F P G) (λ bytes. f bytes >>= λ x. g bytes x.0 x.1) (λ bytes x e.
+    elim (bind_err (f bytes) (λ y. g bytes y.0 y.1) x e) [
+      | inl h ↦ (inl (bf.fails bytes x h), bf.within bytes x h)
+      | inr h ↦
+          let t = sf.found bytes h.0.0 h.0.1 h.1 in
+          let b = bg bytes h.0.0 in
+          (inr (h.0.0, record { front = t.front; back = h.0.1; whole = t.whole; first = t.spelled; second = b.fails h.0.1 x h.2 }), shorter bytes t.front h.0.1 x.left t.whole (b.within h.0.1 x h.2))
+    ])
 
 pub map-breaks : {A C : Type 0} (k : A → C) (F : ModuleRule → ℕ → List ℕ → Type 0) (f : Reader A) → Breaks F f → Breaks F {A = C × List ℕ} (λ bytes. f bytes >>= λ x. Ok (k x.0, x.1))
 map-breaks {A} {C} k F f bf = record { fails = λ bytes x e. bf.fails bytes x (first bytes x e); within = λ bytes x e. bf.within bytes x (first bytes x e) } where
@@ -105,18 +103,14 @@ pub fixed-breaks : (due : ℕ) → Breaks (OtherByte (λ b. b ≡ due)) (fixed_a
 fixed-breaks due = record { fails = λ bytes x e. (fixed-by due bytes x e).0; within = λ bytes x e. (fixed-by due bytes x e).1 }
 
 pub behind-breaks : {A : Type 0} (due : ℕ) (G : ModuleRule → ℕ → List ℕ → Type 0) (g : List ℕ → Result A Fault) → Breaks G g → Breaks (Behind due G) (λ bytes. fixed_at due bytes >>= λ rest. g rest)
-behind-breaks {A} due G g bg = record {
-  fails = λ bytes x e.
-      elim (bind_err (fixed_at due bytes) (λ r. g r) x e) [
-        | inl h ↦ inl ((fixed-breaks due).fails bytes x h)
-        | inr h ↦ inr (record { front = due ∷ []; back = h.0; whole = fixed-found due bytes h.0 h.1; first = refl; second = bg.fails h.0 x h.2 })
-      ];
-  within = λ bytes x e.
-      elim (bind_err (fixed_at due bytes) (λ r. g r) x e) [
-        | inl h ↦ (fixed-breaks due).within bytes x h
-        | inr h ↦ shorter bytes (due ∷ []) h.0 x.left (fixed-found due bytes h.0 h.1) (bg.within h.0 x h.2)
-      ];
-}
+behind-breaks {A} due G g bg =
+    breaks-by (Behind due G) (λ bytes. fixed_at due bytes >>= λ rest. g rest) (λ bytes x e.
+    elim (bind_err (fixed_at due bytes) (λ r. g r) x e) [
+      | inl h ↦ (inl ((fixed-breaks due).fails bytes x h), (fixed-breaks due).within bytes x h)
+      | inr h ↦
+          let w = fixed-found due bytes h.0 h.1 in
+          (inr (record { front = due ∷ []; back = h.0; whole = w; first = refl; second = bg.fails h.0 x h.2 }), shorter bytes (due ∷ []) h.0 x.left w (bg.within h.0 x h.2))
+    ])
 
 neither : (b d e : ℕ) → (b ≡ d → ⊥) → (b ≡ e → ⊥) → ((b ≡ d) ⊎ (b ≡ e)) → ⊥
 neither b d e p q (inl h) = p h
@@ -186,20 +180,14 @@ pub number-breaks : {A : Type 0} (P : A → List ℕ → Type 0) (f : ℕ → Re
     → ((x ≡ at rule.Number (length bytes)) × ((more : List ℕ) → f (length bytes) (bytes ++ more) ≡ Err (at rule.Number (length bytes))))
     ⊎ ((x ≡ at rule.Size 0) × (n : A) × (more : List ℕ) × (0 < length more) × ((s : ℕ) → f s (bytes ++ more) ≡ Ok (n, []))))
     → Breaks (NoNumber P) (λ bytes. f (length bytes) bytes)
-number-breaks {A} P f sf by = record {
-  fails = λ bytes x e.
-      elim (by bytes x e) [
-        | inl h ↦ inl (ap (λ (y : Fault). y.rule) h.0, ap (λ (y : Fault). y.left) h.0, λ n more front back w p. absurd (cc (h.1 more, ap (f (length bytes)) w ∙ (sf (length bytes)).again n front back p)))
-        | inr h ↦
-            let t = (sf 0).found (bytes ++ h.2) h.1 [] (h.4 0) in
-            inr (ap (λ (y : Fault). y.rule) h.0, ap (λ (y : Fault). y.left) h.0, h.1, h.2, h.3, subst (P h.1) (sym (t.whole ∙ append-nil t.front)) t.spelled)
-      ];
-  within = λ bytes x e.
-      elim (by bytes x e) [
-        | inl h ↦ omega (arith, ap (λ (y : Fault). y.left) h.0)
-        | inr h ↦ omega (arith, ap (λ (y : Fault). y.left) h.0)
-      ];
-}
+number-breaks {A} P f sf by =
+    breaks-by (NoNumber P) (λ bytes. f (length bytes) bytes) (λ bytes x e.
+    elim (by bytes x e) [
+      | inl h ↦ (inl (ap (λ (y : Fault). y.rule) h.0, ap (λ (y : Fault). y.left) h.0, λ n more front back w p. absurd (cc (h.1 more, ap (f (length bytes)) w ∙ (sf (length bytes)).again n front back p))), omega (arith, ap (λ (y : Fault). y.left) h.0))
+      | inr h ↦
+          let t = (sf 0).found (bytes ++ h.2) h.1 [] (h.4 0) in
+          (inr (ap (λ (y : Fault). y.rule) h.0, ap (λ (y : Fault). y.left) h.0, h.1, h.2, h.3, subst (P h.1) (sym (t.whole ∙ append-nil t.front)) t.spelled), omega (arith, ap (λ (y : Fault). y.left) h.0))
+    ])
 
 pub index-breaks : Breaks NoIndex index_at
 unfolding index_at
@@ -297,49 +285,50 @@ vector-breaks P F f sf bf = then-breaks NoIndex Index (Elements P F) index_at (�
 
 -- ---- texts and sizes
 
+take-both : (n : ℕ) (bytes : List ℕ) (x : Fault) → take_at n bytes ≡ Err x → TooShort n x.rule x.left bytes × (x.left ≤ length bytes)
+unfolding take_at
+take-both n bytes x e =
+    elim (chosen (ltb (length bytes) n) (Err (at rule.Size 0)) (Ok (take n bytes, drop n bytes)) (Err x) e) [
+      | inl h ↦ subst (λ (y : Fault). TooShort n y.rule y.left bytes × (y.left ≤ length bytes)) (err_is (at rule.Size 0) x h.1) ((refl, refl, ltb-true _ _ h.0), omega arith)
+      | inr h ↦ absurd (cc h.1)
+    ]
+
 pub text-breaks : Breaks NoText text_at
 unfolding text_at
 text-breaks =
-    then-breaks NoIndex Index TooShort index_at (λ whole n bytes. cond (ltb (length bytes) n) (Err (at rule.Size 0)) (Ok (take n bytes, drop n bytes))) index-spells index-breaks
-    (λ whole n. record { fails = λ bytes x e. (cut n bytes x e).0; within = λ bytes x e. (cut n bytes x e).1 }) where
-      kept : ℕ → List ℕ → Result (List ℕ × List ℕ) Fault
-      kept n bytes = Ok (take n bytes, drop n bytes)
-
-      cut : (n : ℕ) (bytes : List ℕ) (x : Fault) → cond (ltb (length bytes) n) (Err (at rule.Size 0)) (kept n bytes) ≡ Err x → TooShort n x.rule x.left bytes × (x.left ≤ length bytes)
-      cut n bytes x e =
-          elim (chosen (ltb (length bytes) n) (Err (at rule.Size 0)) (kept n bytes) (Err x) e) [
-            | inl h ↦ subst (λ (y : Fault). TooShort n y.rule y.left bytes × (y.left ≤ length bytes)) (err_is (at rule.Size 0) x h.1) ((refl, refl, ltb-true _ _ h.0), omega arith)
-            | inr h ↦ absurd (cc h.1)
-          ]
+    then-breaks NoIndex Index TooShort index_at (λ whole n. take_at n) index-spells index-breaks
+    (λ whole n. record { fails = λ bytes x e. (take-both n bytes x e).0; within = λ bytes x e. (take-both n bytes x e).1 })
 
 abbrev NoLetters : ℕ → ModuleRule → ℕ → List ℕ → Type 0
 NoLetters n r left bytes = TooShort n r left bytes ⊎ IllFormed n r left bytes
 
+no_text : (text : List ℕ) → is_utf8 text ≡ false → IsUtf8 text → ⊥
+no_text text e h = absurd (cc (is_utf8-from_IsUtf8 text h))
+
+utf8-both : (n : ℕ) (bytes : List ℕ) (x : Fault) → utf8_at n bytes ≡ Err x → NoLetters n x.rule x.left bytes × (x.left ≤ length bytes)
+unfolding utf8_at take_at
+utf8-both n bytes x e =
+    elim (bind_err (take_at n bytes) (λ t. cond (is_utf8 t.0) (Ok t) (Err (at rule.Text (length bytes - utf8_valid_len t.0)))) x e) [
+      | inl h ↦ let s = take-both n bytes x h in (inl s.0, s.1)
+      | inr h ↦
+          elim (chosen (is_utf8 h.0.0) (Ok h.0) (Err (at rule.Text (length bytes - utf8_valid_len h.0.0))) (Err x) h.2) [
+            | inl k ↦ absurd (cc k.1)
+            | inr k ↦
+                elim (chosen (ltb (length bytes) n) (Err (at rule.Size 0)) (Ok (take n bytes, drop n bytes)) (Ok h.0) h.1) [
+                  | inl l ↦ absurd (cc l.1)
+                  | inr l ↦
+                      let text : take n bytes ≡ h.0.0 = ap (λ (q : List ℕ × List ℕ). q.0) (ok_is (take n bytes, drop n bytes) h.0 l.1) in
+                      subst (λ (y : Fault). NoLetters n y.rule y.left bytes × (y.left ≤ length bytes)) (err_is (at rule.Text (length bytes - utf8_valid_len h.0.0)) x k.1)
+                      (inr (refl, ltb-false _ _ l.0, subst (λ (t : List ℕ). IsUtf8 t → ⊥) (sym text) (no_text h.0.0 k.0), ap (λ (t : List ℕ). length bytes - utf8_valid_len t) (sym text)), omega arith)
+                ]
+          ]
+    ]
+
 pub name-breaks : Breaks NoName name_at
 unfolding name_at
 name-breaks =
-    then-breaks NoIndex Index NoLetters index_at
-    (λ whole n bytes. cond (ltb (length bytes) n) (Err (at rule.Size 0)) (cond (is_utf8 (take n bytes)) (Ok (take n bytes, drop n bytes)) (Err (at rule.Text (length bytes - utf8_valid_len (take n bytes)))))) index-spells index-breaks
-    (λ whole n. record { fails = λ bytes x e. (cut n bytes x e).0; within = λ bytes x e. (cut n bytes x e).1 }) where
-      kept : ℕ → List ℕ → Result (List ℕ × List ℕ) Fault
-      kept n bytes = Ok (take n bytes, drop n bytes)
-
-      ill : ℕ → List ℕ → Fault
-      ill n bytes = at rule.Text (length bytes - utf8_valid_len (take n bytes))
-
-      no_text : (text : List ℕ) → is_utf8 text ≡ false → IsUtf8 text → ⊥
-      no_text text e h = absurd (cc (is_utf8-from_IsUtf8 text h))
-
-      cut : (n : ℕ) (bytes : List ℕ) (x : Fault) → cond (ltb (length bytes) n) (Err (at rule.Size 0)) (cond (is_utf8 (take n bytes)) (kept n bytes) (Err (ill n bytes))) ≡ Err x → NoLetters n x.rule x.left bytes × (x.left ≤ length bytes)
-      cut n bytes x e =
-          elim (chosen (ltb (length bytes) n) (Err (at rule.Size 0)) _ (Err x) e) [
-            | inl h ↦ subst (λ (y : Fault). NoLetters n y.rule y.left bytes × (y.left ≤ length bytes)) (err_is (at rule.Size 0) x h.1) (inl (refl, refl, ltb-true _ _ h.0), omega arith)
-            | inr h ↦
-                elim (chosen (is_utf8 (take n bytes)) (kept n bytes) (Err (ill n bytes)) (Err x) h.1) [
-                  | inl k ↦ absurd (cc k.1)
-                  | inr k ↦ subst (λ (y : Fault). NoLetters n y.rule y.left bytes × (y.left ≤ length bytes)) (err_is (ill n bytes) x k.1) (inr (refl, ltb-false _ _ h.0, no_text (take n bytes) k.0, refl), omega arith)
-                ]
-          ]
+    then-breaks NoIndex Index NoLetters index_at (λ whole n. utf8_at n) index-spells index-breaks
+    (λ whole n. record { fails = λ bytes x e. (utf8-both n bytes x e).0; within = λ bytes x e. (utf8-both n bytes x e).1 })
 
 moved-left : (inner contents whole : ℕ) → inner ≤ contents → contents ≤ whole → (whole - (contents - inner)) + contents ≡ inner + whole
 moved-left inner contents whole a b = omega arith

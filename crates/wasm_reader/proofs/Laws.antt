@@ -87,6 +87,15 @@ byte-spells = record {
 pub none-spells : {A : Type 0} (f : Fault) → Spells {A = A} (λ x bytes. ⊥) (λ bytes. Err f)
 none-spells f = record { found = λ bytes x rest e. absurd cc; again = λ x front rest h. absurd h }
 
+-- a value, and no bytes
+pub pure-spells : {A : Type 0} (x : A) → Spells (λ y bytes. (y ≡ x) × (bytes ≡ [])) (λ bytes. Ok (x, bytes))
+pure-spells {A} x = record {
+  found = λ bytes y rest e.
+      let p = ok_is (x, bytes) (y, rest) e in
+      record { front = []; whole = ap (λ (q : A × List ℕ). q.1) p; spelled = (sym (ap (λ (q : A × List ℕ). q.0) p), refl) };
+  again = λ y front rest h. rw (h.0, h.1) refl;
+}
+
 -- a choice by a byte
 pub if-spells : {A : Type 0} (b d : ℕ) (P Q : A → List ℕ → Type 0) (f g : Reader A) → Spells P f → Spells Q g
     → Spells (λ x bytes. ((b ≡ d) × P x bytes) ⊎ ((b ≡ d → ⊥) × Q x bytes)) (λ bytes. cond (eqb b d) (f bytes) (g bytes))

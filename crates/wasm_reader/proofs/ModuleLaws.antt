@@ -1,264 +1,203 @@
--- What is read is the module that the bytes spell, and a module that is spelled is read.
-use Rattle.std.proofs.Common.{◌≡◌, ℕ, ◌≤◌, ◌<◌, cond, eqb, eq-eqb, List, [], ◌∷◌, ◌++◌, length, Result, Ok, Err, refl, sym, ap, subst, ◌∙◌, arith, inl, inr}
-use Rattle.std.proofs.lemmas.Bool.{eqb-true}
-use Rattle.std.proofs.lemmas.List.{append-nil, nil_from_length}
+-- What is read is the module that the bytes spell, where none is read a rule fails, and what is spelled is read.
+use Rattle.std.proofs.Common.{◌≡◌, ℕ, suc, ◌-◌, ◌≤◌, ◌<◌, Bool, true, false, cond, eqb, eq-eqb, List, [], ◌∷◌, ◌++◌, length, Result, Ok, Err, refl, sym, ap, subst, ◌∙◌, arith, inl, inr}
+use Rattle.std.proofs.lemmas.Bool.{eqb-true, eqb-false}
+use Rattle.std.proofs.lemmas.List.{append-nil, nil_from_length, length-append}
+use Rattle.wasm_tree.specs.declared.failure.ModuleRule.{ModuleRule}
 use Rattle.wasm_tree.specs.declared.failure.ModuleRule.TheVariants as rule
 use Rattle.wasm_tree.specs.declared.module.Custom.{Custom}
 use Rattle.wasm_tree.specs.declared.module.Module.{Module}
-use Rattle.wasm_tree.specs.Spelled.{Joined, Is, Each, Index, Type_of_function, Imported, Memory, Global, Exported, Body, Data, Raw, Section, InOrder, contents_of, Lists, CustomsAre, header, Spelled}
+use Rattle.wasm_tree.specs.Spelled.{Joined, Is, Each, Index, Type_of_function, Imported, Memory, Global, Exported, Body, Data, Raw, RawSection, InOrder, contents_of, Lists, CustomsAre, header, Spelled}
 use Rattle.wasm_reader.specs.declared.fault.Fault.{Fault}
 use Rattle.wasm_reader.specs.declared.section.Found.{Found}
-use Rattle.wasm_reader.specs.declared.reader.FirstParts.{FirstParts}
-use Rattle.wasm_reader.specs.declared.reader.LastParts.{LastParts}
-use Rattle.wasm_reader.specs.Reading.{◌>>=◌, at, Reader, index_at, function_type_at, import_at, memory_at, global_at, export_at, filled_at, body_at, segment_at, customs_at, section_at, header_byte_at, header_at, head_at, tail_at, whole_of, module_at}
+use Rattle.wasm_reader.specs.Fault.{NoFunctionType, NoImport, NoIndex, NoMemory, NoGlobal, NoExport, NoBody, NoData, NoModule, Differs, FailsAt}
+use Rattle.wasm_reader.specs.Reading.{LastParts, FirstParts, ◌>>=◌, at, Reader, index_at, function_type_at, import_at, memory_at, global_at, export_at, filled_at, body_at, segment_at, customs_at, section_at, header_byte_at, header_at, head_at, tail_at, whole_of, module_at}
 use Rattle.wasm_reader.proofs.Steps.{ok_is}
-use Rattle.wasm_reader.proofs.Laws.{Spells, bind_ok, chosen}
-use Rattle.wasm_reader.proofs.NumberLaws.{index-spells}
-use Rattle.wasm_reader.proofs.PartLaws.{function_type-spells, import-spells, memory-spells, global-spells, export-spells, segment-spells}
-use Rattle.wasm_reader.proofs.CodeLaws.{body-spells}
-use Rattle.wasm_reader.proofs.SectionLaws.{total, each-append, Passed, Stage, customs-found, section-found, lists-along, customs-again, section-again, nothing_left, AreNext}
+use Rattle.wasm_reader.proofs.Choices.{memory-reads}
+use Rattle.wasm_reader.proofs.CodeFaults.{body-spells, body-breaks}
+use Rattle.wasm_reader.proofs.Fields.{index-reads}
+use Rattle.wasm_reader.proofs.Records.{function_type-reads, import-reads, export-reads, global-reads, segment-reads}
+use Rattle.wasm_reader.proofs.Ends.{Ends, step, weaker, by_test, ends_ok, ends_err}
+use Rattle.wasm_reader.proofs.Sections.{total, begin, unfiltered, lists-along}
+use Rattle.wasm_reader.proofs.SectionLaws.{Skipped, Upto, Stopped, Past, Stage, Done, nothing, past, customs-end, section-ends, skip-stopped, misplaced}
+use Rattle.wasm_reader.proofs.SectionAgain.{customs-again, section-again, nothing_left}
 
-header_byte-found : (due : ℕ) (bytes rest : List ℕ) → header_byte_at due bytes ≡ Ok rest → bytes ≡ due ∷ rest
-unfolding header_byte_at
-header_byte-found due [] rest e = absurd cc
-header_byte-found due (b ∷ bytes) rest e =
-    elim (chosen (eqb b due) (Ok bytes) (Err _) (Ok rest) e) [
-      | inl h ↦ cc (eqb-true b due h.0, h.1)
-      | inr h ↦ absurd (cc h.1)
-    ]
+-- ---- the header
 
-header_byte-again : (due : ℕ) (rest : List ℕ) → header_byte_at due (due ∷ rest) ≡ Ok rest
-unfolding header_byte_at
-header_byte-again due rest = rw (eq-eqb due due refl) refl
+-- the first byte that isn't the one due
+abbrev Off : List ℕ → List ℕ → Fault → Type 0
+Off dues bytes x = (front : List ℕ) × (back : List ℕ) × (more : List ℕ) × (bytes ≡ front ++ back) × (dues ≡ front ++ more) × (x ≡ at rule.Header (length back)) × Differs back more
 
-pub header-found : (dues bytes rest : List ℕ) → header_at dues bytes ≡ Ok rest → bytes ≡ dues ++ rest
-unfolding header_at
-header-found [] bytes rest e = cc
-header-found (due ∷ dues) bytes rest e =
-    let a = bind_ok (header_byte_at due bytes) (λ r. header_at dues r) rest e in
-    header_byte-found due bytes a.0 a.1 ∙ ap (λ (l : List ℕ). due ∷ l) (header-found dues a.0 rest a.2)
+-- the header is there, or a byte differs
+header-end : (dues bytes : List ℕ) → Ends (λ rest. bytes ≡ dues ++ rest) (Off dues bytes) (header_at dues bytes)
+unfolding header_at header_byte_at
+header-end [] bytes = refl
+header-end (due ∷ dues) [] = ([], [], due ∷ dues, refl, refl, refl, tt)
+header-end (due ∷ dues) (b ∷ bytes) = by (eqb b due) refl (header-end dues bytes) where
+  by : (t : Bool) → eqb b due ≡ t → Ends (λ rest. bytes ≡ dues ++ rest) (Off dues bytes) (header_at dues bytes)
+      → Ends (λ rest. b ∷ bytes ≡ due ∷ (dues ++ rest)) (Off (due ∷ dues) (b ∷ bytes)) (cond t (Ok bytes) (Err (at rule.Header (suc (length bytes)))) >>= λ rest. header_at dues rest)
+  by true e so =
+      weaker _ _ _ _ (header_at dues bytes) so (λ rest w. cc (eqb-true b due e, w))
+      (λ x o. (b ∷ o.0, o.1, o.2, ap (λ (l : List ℕ). b ∷ l) o.3, ap (λ (l : List ℕ). due ∷ l) o.4 ∙ ap (λ (z : ℕ). z ∷ (o.0 ++ o.2)) (sym (eqb-true b due e)), o.5, o.6))
+  by false e so = ([], b ∷ bytes, due ∷ dues, refl, refl, refl, eqb-false b due e)
 
-pub header-again : (dues rest : List ℕ) → header_at dues (dues ++ rest) ≡ Ok rest
-unfolding header_at
+-- the header is read again
+header-again : (dues rest : List ℕ) → header_at dues (dues ++ rest) ≡ Ok rest
+unfolding header_at header_byte_at
 header-again [] rest = refl
-header-again (due ∷ dues) rest = rw (header_byte-again due (dues ++ rest), header-again dues rest) refl
+header-again (due ∷ dues) rest = rw (eq-eqb due due refl) (header-again dues rest)
 
-pub record HeadRead (found : Found) (bytes : List ℕ) (parts : FirstParts) (after : Found) (rest : List ℕ) : Type 0 where
-  pub g1 : Found
-  pub r1 : List ℕ
-  pub g2 : Found
-  pub r2 : List ℕ
-  pub g3 : Found
-  pub r3 : List ℕ
-  pub types : Stage Type_of_function 1 found bytes parts.types g1 r1
-  pub imports : Stage Imported 2 g1 r1 parts.imports g2 r2
-  pub functions : Stage Index 3 g2 r2 parts.functions g3 r3
-  pub memory : Stage Memory 5 g3 r3 parts.memory after rest
+-- ---- the sections of a module, in their order
 
-pub record TailRead (found : Found) (bytes : List ℕ) (parts : LastParts) (after : Found) (rest : List ℕ) : Type 0 where
-  pub g1 : Found
-  pub r1 : List ℕ
-  pub g2 : Found
-  pub r2 : List ℕ
-  pub g3 : Found
-  pub r3 : List ℕ
-  pub globals : Stage Global 6 found bytes parts.globals g1 r1
-  pub exports : Stage Exported 7 g1 r1 parts.exports g2 r2
-  pub codes : Stage Body 10 g2 r2 parts.codes g3 r3
-  pub segments : Stage Data 11 g3 r3 parts.segments after rest
+types-stage : Stage Type_of_function NoFunctionType function_type_at 0 1
+types-stage = record { reads = function_type-reads; lt = omega arith; next = refl; known = (0, omega arith, refl); kind = λ Q h. inr (inl (refl, h)) }
 
-pub head-found : (found : Found) (bytes : List ℕ) (parts : FirstParts) (after : Found) (rest : List ℕ) → head_at found bytes ≡ Ok ((parts, after), rest) → HeadRead found bytes parts after rest
+imports-stage : Stage Imported NoImport import_at 1 2
+imports-stage = record { reads = import-reads; lt = omega arith; next = refl; known = (1, omega arith, refl); kind = λ Q h. inr (inr (inl (refl, h))) }
+
+functions-stage : Stage Index NoIndex index_at 2 3
+functions-stage = record { reads = index-reads; lt = omega arith; next = refl; known = (2, omega arith, refl); kind = λ Q h. inr (inr (inr (inl (refl, h)))) }
+
+memory-stage : Stage Memory NoMemory memory_at 3 5
+memory-stage = record { reads = memory-reads; lt = omega arith; next = refl; known = (3, omega arith, refl); kind = λ Q h. inr (inr (inr (inr (inl (refl, h))))) }
+
+globals-stage : Stage Global NoGlobal global_at 5 6
+globals-stage = record { reads = global-reads; lt = omega arith; next = refl; known = (4, omega arith, refl); kind = λ Q h. inr (inr (inr (inr (inr (inl (refl, h)))))) }
+
+exports-stage : Stage Exported NoExport export_at 6 7
+exports-stage = record { reads = export-reads; lt = omega arith; next = refl; known = (5, omega arith, refl); kind = λ Q h. inr (inr (inr (inr (inr (inr (inl (refl, h))))))) }
+
+codes-stage : Stage Body NoBody (filled_at body_at) 7 10
+codes-stage = record { reads = record { spells = body-spells; breaks = body-breaks }; lt = omega arith; next = refl; known = (6, omega arith, refl); kind = λ Q h. inr (inr (inr (inr (inr (inr (inr (inl (refl, h)))))))) }
+
+segments-stage : Stage Data NoData segment_at 10 11
+segments-stage = record { reads = segment-reads; lt = omega arith; next = refl; known = (7, omega arith, refl); kind = λ Q h. inr (inr (inr (inr (inr (inr (inr (inr (refl, h)))))))) }
+
+-- the sections up to the memories
+record FirstDone (start : List ℕ) (parts : FirstParts) (after : Found) (rest : List ℕ) : Type 0 where
+  upto : Upto 5 start after rest
+  types : Lists Type_of_function 1 upto.piece.raws parts.types
+  imports : Lists Imported 2 upto.piece.raws parts.imports
+  functions : Lists Index 3 upto.piece.raws parts.functions
+  memory : Lists Memory 5 upto.piece.raws parts.memory
+
+-- the sections from the globals on, behind these
+record LastDone (start : List ℕ) (raws : List Raw) (parts : LastParts) (after : Found) (rest : List ℕ) : Type 0 where
+  upto : Upto 11 start after rest
+  kept : (j : ℕ) → 0 < j → j ≤ 5 → contents_of j upto.piece.raws ≡ contents_of j raws
+  globals : Lists Global 6 upto.piece.raws parts.globals
+  exports : Lists Exported 7 upto.piece.raws parts.exports
+  codes : Lists Body 10 upto.piece.raws parts.codes
+  segments : Lists Data 11 upto.piece.raws parts.segments
+
+-- what an earlier section lists stays
+still : {A B : Type 0} {P : A → List ℕ → Type 0} {before id : ℕ} {start : List ℕ} {raws : List Raw} {xs : List A} {after : Found} {rest : List ℕ} (Q : B → List ℕ → Type 0) (j : ℕ) (ys : List B) (d : Done P before id start raws xs after rest)
+    → 0 < j → j ≤ before → Lists Q j raws ys → Lists Q j d.upto.piece.raws ys
+still {raws = raws} Q j ys d some le h = lists-along Q j d.upto.piece.raws raws ys (d.kept j some le) h
+
+-- the stages up to the memories are done, or a section fails
+head-ends : (start : List ℕ) → Ends (λ y. FirstDone start y.0.0 y.0.1 y.1) (Stopped start) (head_at begin start)
 unfolding head_at
-head-found found bytes parts after rest e =
-    let b0 = bind_ok (section_at function_type_at 1 found bytes) (λ y0. section_at import_at 2 y0.0.1 y0.1 >>= λ y1. section_at index_at 3 y1.0.1 y1.1 >>= λ y2. section_at memory_at 5 y2.0.1 y2.1 >>= λ y3. Ok ((record { types = y0.0.0; imports = y1.0.0; functions = y2.0.0; memory = y3.0.0 }, y3.0.1), y3.1)) ((parts, after), rest) e in
-    let b1 = bind_ok (section_at import_at 2 b0.0.0.1 b0.0.1) (λ y1. section_at index_at 3 y1.0.1 y1.1 >>= λ y2. section_at memory_at 5 y2.0.1 y2.1 >>= λ y3. Ok ((record { types = b0.0.0.0; imports = y1.0.0; functions = y2.0.0; memory = y3.0.0 }, y3.0.1), y3.1)) ((parts, after), rest) b0.2 in
-    let b2 = bind_ok (section_at index_at 3 b1.0.0.1 b1.0.1) (λ y2. section_at memory_at 5 y2.0.1 y2.1 >>= λ y3. Ok ((record { types = b0.0.0.0; imports = b1.0.0.0; functions = y2.0.0; memory = y3.0.0 }, y3.0.1), y3.1)) ((parts, after), rest) b1.2 in
-    let b3 = bind_ok (section_at memory_at 5 b2.0.0.1 b2.0.1) (λ y3. Ok ((record { types = b0.0.0.0; imports = b1.0.0.0; functions = b2.0.0.0; memory = y3.0.0 }, y3.0.1), y3.1)) ((parts, after), rest) b2.2 in
-    let made : FirstParts = record { types = b0.0.0.0; imports = b1.0.0.0; functions = b2.0.0.0; memory = b3.0.0.0 } in
-    subst (λ (q : (FirstParts × Found) × List ℕ). HeadRead found bytes q.0.0 q.0.1 q.1) (ok_is ((made, b3.0.0.1), b3.0.1) ((parts, after), rest) b3.2)
-    (record {
-      g1 = b0.0.0.1;
-      r1 = b0.0.1;
-      g2 = b1.0.0.1;
-      r2 = b1.0.1;
-      g3 = b2.0.0.1;
-      r3 = b2.0.1;
-      types = section-found Type_of_function function_type_at 1 function_type-spells (omega arith) (0, omega arith, refl) found bytes b0.0.0.0 b0.0.0.1 b0.0.1 b0.1;
-      imports = section-found Imported import_at 2 import-spells (omega arith) (1, omega arith, refl) b0.0.0.1 b0.0.1 b1.0.0.0 b1.0.0.1 b1.0.1 b1.1;
-      functions = section-found Index index_at 3 index-spells (omega arith) (2, omega arith, refl) b1.0.0.1 b1.0.1 b2.0.0.0 b2.0.0.1 b2.0.1 b2.1;
-      memory = section-found Memory memory_at 5 memory-spells (omega arith) (3, omega arith, refl) b2.0.0.1 b2.0.1 b3.0.0.0 b3.0.0.1 b3.0.1 b3.1;
-    })
+head-ends start =
+    step _ _ _ _ (section_at function_type_at 1 begin start) _ (section-ends _ _ function_type_at 0 1 types-stage start begin start u) (λ x s. s) (λ a d1.
+    step _ _ _ _ (section_at import_at 2 a.0.1 a.1) _ (section-ends _ _ import_at 1 2 imports-stage start a.0.1 a.1 d1.upto) (λ x s. s) (λ b d2.
+    step _ _ _ _ (section_at index_at 3 b.0.1 b.1) _ (section-ends _ _ index_at 2 3 functions-stage start b.0.1 b.1 d2.upto) (λ x s. s) (λ c d3.
+    step _ _ _ _ (section_at memory_at 5 c.0.1 c.1) _ (section-ends _ _ memory_at 3 5 memory-stage start c.0.1 c.1 d3.upto) (λ x s. s) (λ d d4. record {
+      upto = d4.upto;
+      types = still Type_of_function 1 a.0.0 d4 (omega arith) (omega arith) (still Type_of_function 1 a.0.0 d3 (omega arith) (omega arith) (still Type_of_function 1 a.0.0 d2 (omega arith) (omega arith) d1.lists));
+      imports = still Imported 2 b.0.0 d4 (omega arith) (omega arith) (still Imported 2 b.0.0 d3 (omega arith) (omega arith) d2.lists);
+      functions = still Index 3 c.0.0 d4 (omega arith) (omega arith) d3.lists;
+      memory = d4.lists;
+    })))) where
+      u : Upto 0 start begin start
+      u = record { piece = nothing start; order = tt; low = omega arith; others = λ j lt. refl; all = λ cs. refl; next = inl refl }
 
-pub tail-found : (found : Found) (bytes : List ℕ) (parts : LastParts) (after : Found) (rest : List ℕ) → tail_at found bytes ≡ Ok ((parts, after), rest) → TailRead found bytes parts after rest
+-- the stages from the globals on are done, or a section fails
+tail-ends : (start : List ℕ) (found : Found) (bytes : List ℕ) (u : Upto 5 start found bytes) → Ends (λ y. LastDone start u.piece.raws y.0.0 y.0.1 y.1) (Stopped start) (tail_at found bytes)
 unfolding tail_at
-tail-found found bytes parts after rest e =
-    let b0 = bind_ok (section_at global_at 6 found bytes) (λ y0. section_at export_at 7 y0.0.1 y0.1 >>= λ y1. section_at (filled_at body_at) 10 y1.0.1 y1.1 >>= λ y2. section_at segment_at 11 y2.0.1 y2.1 >>= λ y3. Ok ((record { globals = y0.0.0; exports = y1.0.0; codes = y2.0.0; segments = y3.0.0 }, y3.0.1), y3.1)) ((parts, after), rest) e in
-    let b1 = bind_ok (section_at export_at 7 b0.0.0.1 b0.0.1) (λ y1. section_at (filled_at body_at) 10 y1.0.1 y1.1 >>= λ y2. section_at segment_at 11 y2.0.1 y2.1 >>= λ y3. Ok ((record { globals = b0.0.0.0; exports = y1.0.0; codes = y2.0.0; segments = y3.0.0 }, y3.0.1), y3.1)) ((parts, after), rest) b0.2 in
-    let b2 = bind_ok (section_at (filled_at body_at) 10 b1.0.0.1 b1.0.1) (λ y2. section_at segment_at 11 y2.0.1 y2.1 >>= λ y3. Ok ((record { globals = b0.0.0.0; exports = b1.0.0.0; codes = y2.0.0; segments = y3.0.0 }, y3.0.1), y3.1)) ((parts, after), rest) b1.2 in
-    let b3 = bind_ok (section_at segment_at 11 b2.0.0.1 b2.0.1) (λ y3. Ok ((record { globals = b0.0.0.0; exports = b1.0.0.0; codes = b2.0.0.0; segments = y3.0.0 }, y3.0.1), y3.1)) ((parts, after), rest) b2.2 in
-    let made : LastParts = record { globals = b0.0.0.0; exports = b1.0.0.0; codes = b2.0.0.0; segments = b3.0.0.0 } in
-    subst (λ (q : (LastParts × Found) × List ℕ). TailRead found bytes q.0.0 q.0.1 q.1) (ok_is ((made, b3.0.0.1), b3.0.1) ((parts, after), rest) b3.2)
-    (record {
-      g1 = b0.0.0.1;
-      r1 = b0.0.1;
-      g2 = b1.0.0.1;
-      r2 = b1.0.1;
-      g3 = b2.0.0.1;
-      r3 = b2.0.1;
-      globals = section-found Global global_at 6 global-spells (omega arith) (4, omega arith, refl) found bytes b0.0.0.0 b0.0.0.1 b0.0.1 b0.1;
-      exports = section-found Exported export_at 7 export-spells (omega arith) (5, omega arith, refl) b0.0.0.1 b0.0.1 b1.0.0.0 b1.0.0.1 b1.0.1 b1.1;
-      codes = section-found Body (filled_at body_at) 10 body-spells (omega arith) (6, omega arith, refl) b1.0.0.1 b1.0.1 b2.0.0.0 b2.0.0.1 b2.0.1 b2.1;
-      segments = section-found Data segment_at 11 segment-spells (omega arith) (7, omega arith, refl) b2.0.0.1 b2.0.1 b3.0.0.0 b3.0.0.1 b3.0.1 b3.1;
+tail-ends start found bytes u =
+    step _ _ _ _ (section_at global_at 6 found bytes) _ (section-ends _ _ global_at 5 6 globals-stage start found bytes u) (λ x s. s) (λ a d1.
+    step _ _ _ _ (section_at export_at 7 a.0.1 a.1) _ (section-ends _ _ export_at 6 7 exports-stage start a.0.1 a.1 d1.upto) (λ x s. s) (λ b d2.
+    step _ _ _ _ (section_at (filled_at body_at) 10 b.0.1 b.1) _ (section-ends _ _ (filled_at body_at) 7 10 codes-stage start b.0.1 b.1 d2.upto) (λ x s. s) (λ c d3.
+    step _ _ _ _ (section_at segment_at 11 c.0.1 c.1) _ (section-ends _ _ segment_at 10 11 segments-stage start c.0.1 c.1 d3.upto) (λ x s. s) (λ d d4. record {
+      upto = d4.upto;
+      kept = λ j some le. d4.kept j some (omega arith) ∙ d3.kept j some (omega arith) ∙ d2.kept j some (omega arith) ∙ d1.kept j some le;
+      globals = still Global 6 a.0.0 d4 (omega arith) (omega arith) (still Global 6 a.0.0 d3 (omega arith) (omega arith) (still Global 6 a.0.0 d2 (omega arith) (omega arith) d1.lists));
+      exports = still Exported 7 b.0.0 d4 (omega arith) (omega arith) (still Exported 7 b.0.0 d3 (omega arith) (omega arith) d2.lists);
+      codes = still Body 10 c.0.0 d4 (omega arith) (omega arith) d3.lists;
+      segments = d4.lists;
+    }))))
+
+-- ---- the module
+
+abbrev Fails : List ℕ → Fault → Type 0
+Fails bytes x = NoModule x.rule x.left bytes × (x.left ≤ length bytes)
+
+-- a section fails behind the header
+behind_header : (bytes rest : List ℕ) (x : Fault) → bytes ≡ header ++ rest → Stopped rest x → Fails bytes x
+behind_header bytes rest x w s =
+    let p = s.piece in (
+      inr (inl (p.raws, s.order, p.hold, record { front = header; back = rest; whole = w; first = refl; second = record { front = p.front; back = s.back; whole = p.whole; first = p.each; second = s.next } })),
+      omega (arith, s.within, ap length w, length-append header rest, ap length p.whole, length-append p.front s.back),
+    )
+
+-- all sections were read, and what is left behind custom ones is looked at
+finish : (bytes rest : List ℕ) → bytes ≡ header ++ rest → (first : FirstParts) (g : Found) (r : List ℕ) (h : FirstDone rest first g r) (parts : LastParts) (found : Found) (left : List ℕ) → LastDone rest h.upto.piece.raws parts found left
+    → (all : Found) (over : List ℕ) → Skipped found left all over
+    → Ends (Spelled bytes) (Fails bytes) (cond (eqb (length over) 0) (cond (eqb (length first.functions) (length parts.codes)) (Ok (whole_of first parts all)) (Err (at rule.Size 0))) (Err (at rule.Section (length over))))
+finish bytes rest w first g r h parts found left t all over s =
+    let piece = o.upto.piece in
+    let raws = piece.raws in
+    by_test _ _ (eqb (length over) 0) _ _ (λ e.
+    let none : over ≡ [] = nil_from_length over (eqb-true (length over) 0 e) in
+    let each : Each RawSection raws rest = subst (Each RawSection raws) (sym (piece.whole ∙ ap (λ (l : List ℕ). piece.front ++ l) none ∙ append-nil piece.front)) piece.each in
+    let whole : Joined (Is header) (Each RawSection raws) bytes = record { front = header; back = rest; whole = w; first = refl; second = each } in
+    by_test _ _ (eqb (length first.functions) (length parts.codes)) _ _
+    (λ same. record {
+      raws = raws;
+      found = piece.customs;
+      whole = whole;
+      order = o.upto.order;
+      types = early Type_of_function 1 first.types (omega arith) (omega arith) h.types;
+      imports = early Imported 2 first.imports (omega arith) (omega arith) h.imports;
+      functions = early Index 3 first.functions (omega arith) (omega arith) h.functions;
+      memory = early Memory 5 first.memory (omega arith) (omega arith) h.memory;
+      globals = late Global 6 parts.globals (omega arith) t.globals;
+      exports = late Exported 7 parts.exports (omega arith) t.exports;
+      codes = late Body 10 parts.codes (omega arith) t.codes;
+      segments = late Data 11 parts.segments (omega arith) t.segments;
+      customs = piece.are;
+      sorted = sym (unfiltered all) ∙ o.upto.all [] ∙ ap (total begin) (append-nil piece.customs);
+      bodies = eqb-true _ _ same;
     })
+    (λ other. (inr (inr (refl, refl, raws, first.functions, parts.codes, o.upto.order, whole, early Index 3 first.functions (omega arith) (omega arith) h.functions, late Body 10 parts.codes (omega arith) t.codes, eqb-false (length first.functions) (length parts.codes) other)), omega arith)))
+    (λ e. behind_header bytes rest (at rule.Section (length over)) w (misplaced rest left over found all t.upto s (eqb-false (length over) 0 e))) where
+      o : Past 11 rest t.upto.piece.raws all over
+      o = past 11 rest left over found all t.upto s
 
-abbrev pub start : Found
-start = record { others = []; named = [] }
+      late : {A : Type 0} (P : A → List ℕ → Type 0) (j : ℕ) (xs : List A) → 0 < j → Lists P j t.upto.piece.raws xs → Lists P j o.upto.piece.raws xs
+      late P j xs some l = lists-along P j o.upto.piece.raws t.upto.piece.raws xs (o.kept j some) l
 
-unfiltered : (g : Found) → total g [] ≡ g.others ++ g.named
-unfiltered g = rw (append-nil g.others, append-nil g.named) refl
+      early : {A : Type 0} (P : A → List ℕ → Type 0) (j : ℕ) (xs : List A) → 0 < j → j ≤ 5 → Lists P j h.upto.piece.raws xs → Lists P j o.upto.piece.raws xs
+      early P j xs some le l = late P j xs some (lists-along P j t.upto.piece.raws h.upto.piece.raws xs (t.kept j some le) l)
 
--- the sections that were read, together, are those of the module
-spelled : (bytes rest0 r4 r8 : List ℕ) (g4 g8 g9 : Found) (head : FirstParts) (tail : LastParts) → bytes ≡ header ++ rest0 → HeadRead start rest0 head g4 r4 → TailRead g4 r4 tail g8 r8 → Passed g8 r8 g9 []
-    → length head.functions ≡ length tail.codes → Spelled bytes (whole_of head tail g9)
-spelled bytes rest0 r4 r8 g4 g8 g9 head tail w h t p same =
-    let m9 = p.raws ++ [] in
-    let c9 = p.customs ++ [] in
-    let o9 : (b : ℕ) → b ≤ 11 → InOrder b m9 = λ b le. p.order b [] tt in
-    let e9 : Each Section m9 r8 = subst (Each Section m9) (sym p.whole) (each-append Section p.raws [] p.front [] p.each refl) in
-    let a9 : CustomsAre m9 c9 = p.are [] [] refl in
-    let m8 = t.segments.raws ++ m9 in
-    let c8 = t.segments.customs ++ c9 in
-    let o8 : (b : ℕ) → b ≤ 10 → InOrder b m8 = λ b le. t.segments.order b m9 (omega arith) o9 in
-    let e8 : Each Section m8 t.r3 = subst (Each Section m8) (sym t.segments.whole) (each-append Section t.segments.raws m9 t.segments.front r8 t.segments.each e9) in
-    let a8 : CustomsAre m8 c8 = t.segments.are m9 c9 a9 in
-    let m7 = t.codes.raws ++ m8 in
-    let c7 = t.codes.customs ++ c8 in
-    let o7 : (b : ℕ) → b ≤ 7 → InOrder b m7 = λ b le. t.codes.order b m8 (omega arith) o8 in
-    let e7 : Each Section m7 t.r2 = subst (Each Section m7) (sym t.codes.whole) (each-append Section t.codes.raws m8 t.codes.front t.r3 t.codes.each e8) in
-    let a7 : CustomsAre m7 c7 = t.codes.are m8 c8 a8 in
-    let m6 = t.exports.raws ++ m7 in
-    let c6 = t.exports.customs ++ c7 in
-    let o6 : (b : ℕ) → b ≤ 6 → InOrder b m6 = λ b le. t.exports.order b m7 (omega arith) o7 in
-    let e6 : Each Section m6 t.r1 = subst (Each Section m6) (sym t.exports.whole) (each-append Section t.exports.raws m7 t.exports.front t.r2 t.exports.each e7) in
-    let a6 : CustomsAre m6 c6 = t.exports.are m7 c7 a7 in
-    let m5 = t.globals.raws ++ m6 in
-    let c5 = t.globals.customs ++ c6 in
-    let o5 : (b : ℕ) → b ≤ 5 → InOrder b m5 = λ b le. t.globals.order b m6 (omega arith) o6 in
-    let e5 : Each Section m5 r4 = subst (Each Section m5) (sym t.globals.whole) (each-append Section t.globals.raws m6 t.globals.front t.r1 t.globals.each e6) in
-    let a5 : CustomsAre m5 c5 = t.globals.are m6 c6 a6 in
-    let m4 = h.memory.raws ++ m5 in
-    let c4 = h.memory.customs ++ c5 in
-    let o4 : (b : ℕ) → b ≤ 3 → InOrder b m4 = λ b le. h.memory.order b m5 (omega arith) o5 in
-    let e4 : Each Section m4 h.r3 = subst (Each Section m4) (sym h.memory.whole) (each-append Section h.memory.raws m5 h.memory.front r4 h.memory.each e5) in
-    let a4 : CustomsAre m4 c4 = h.memory.are m5 c5 a5 in
-    let m3 = h.functions.raws ++ m4 in
-    let c3 = h.functions.customs ++ c4 in
-    let o3 : (b : ℕ) → b ≤ 2 → InOrder b m3 = λ b le. h.functions.order b m4 (omega arith) o4 in
-    let e3 : Each Section m3 h.r2 = subst (Each Section m3) (sym h.functions.whole) (each-append Section h.functions.raws m4 h.functions.front h.r3 h.functions.each e4) in
-    let a3 : CustomsAre m3 c3 = h.functions.are m4 c4 a4 in
-    let m2 = h.imports.raws ++ m3 in
-    let c2 = h.imports.customs ++ c3 in
-    let o2 : (b : ℕ) → b ≤ 1 → InOrder b m2 = λ b le. h.imports.order b m3 (omega arith) o3 in
-    let e2 : Each Section m2 h.r1 = subst (Each Section m2) (sym h.imports.whole) (each-append Section h.imports.raws m3 h.imports.front h.r2 h.imports.each e3) in
-    let a2 : CustomsAre m2 c2 = h.imports.are m3 c3 a3 in
-    let m1 = h.types.raws ++ m2 in
-    let c1 = h.types.customs ++ c2 in
-    let o1 : (b : ℕ) → b ≤ 0 → InOrder b m1 = λ b le. h.types.order b m2 (omega arith) o2 in
-    let e1 : Each Section m1 rest0 = subst (Each Section m1) (sym h.types.whole) (each-append Section h.types.raws m2 h.types.front h.r1 h.types.each e2) in
-    let a1 : CustomsAre m1 c1 = h.types.are m2 c2 a2 in
-    record {
-      raws = m1;
-      found = c1;
-      whole = record { front = header; back = rest0; whole = w; first = refl; second = e1 };
-      order = o1 0 (omega arith);
-      types = h.types.lists m2 o2;
-      imports = lists-along Imported 2 m1 m2 head.imports (h.types.others 2 (omega arith) m2) (h.imports.lists m3 o3);
-      functions = lists-along Index 3 m1 m3 head.functions (h.types.others 3 (omega arith) m2 ∙ h.imports.others 3 (omega arith) m3) (h.functions.lists m4 o4);
-      memory = lists-along Memory 5 m1 m4 head.memory (h.types.others 5 (omega arith) m2 ∙ h.imports.others 5 (omega arith) m3 ∙ h.functions.others 5 (omega arith) m4) (h.memory.lists m5 o5);
-      globals = lists-along Global 6 m1 m5 tail.globals (h.types.others 6 (omega arith) m2 ∙ h.imports.others 6 (omega arith) m3 ∙ h.functions.others 6 (omega arith) m4 ∙ h.memory.others 6 (omega arith) m5) (t.globals.lists m6 o6);
-      exports = lists-along Exported 7 m1 m6 tail.exports (h.types.others 7 (omega arith) m2 ∙ h.imports.others 7 (omega arith) m3 ∙ h.functions.others 7 (omega arith) m4 ∙ h.memory.others 7 (omega arith) m5 ∙ t.globals.others 7 (omega arith) m6) (t.exports.lists m7 o7);
-      codes = lists-along Body 10 m1 m7 tail.codes (h.types.others 10 (omega arith) m2 ∙ h.imports.others 10 (omega arith) m3 ∙ h.functions.others 10 (omega arith) m4 ∙ h.memory.others 10 (omega arith) m5 ∙ t.globals.others 10 (omega arith) m6 ∙ t.exports.others 10 (omega arith) m7) (t.codes.lists m8 o8);
-      segments = lists-along Data 11 m1 m8 tail.segments (h.types.others 11 (omega arith) m2 ∙ h.imports.others 11 (omega arith) m3 ∙ h.functions.others 11 (omega arith) m4 ∙ h.memory.others 11 (omega arith) m5 ∙ t.globals.others 11 (omega arith) m6 ∙ t.exports.others 11 (omega arith) m7 ∙ t.codes.others 11 (omega arith) m8) (t.segments.lists m9 o9);
-      customs = a1;
-      sorted = sym (unfiltered g9) ∙ p.all [] ∙ t.segments.all c9 ∙ t.codes.all c8 ∙ t.exports.all c7 ∙ t.globals.all c6 ∙ h.memory.all c5 ∙ h.functions.all c4 ∙ h.imports.all c3 ∙ h.types.all c2;
-      bodies = same;
-    }
-
--- the sections in order, and what those that list functions and codes hold
-pub listed : (bytes rest0 r4 r8 : List ℕ) (g4 g8 g9 : Found) (head : FirstParts) (tail : LastParts) → bytes ≡ header ++ rest0 → HeadRead start rest0 head g4 r4 → TailRead g4 r4 tail g8 r8 → Passed g8 r8 g9 []
-    → (raws : List Raw) × InOrder 0 raws × Joined (Is header) (Each Section raws) bytes × Lists Index 3 raws head.functions × Lists Body 10 raws tail.codes
-listed bytes rest0 r4 r8 g4 g8 g9 head tail w h t p =
-    let m9 = p.raws ++ [] in
-    let c9 = p.customs ++ [] in
-    let o9 : (b : ℕ) → b ≤ 11 → InOrder b m9 = λ b le. p.order b [] tt in
-    let e9 : Each Section m9 r8 = subst (Each Section m9) (sym p.whole) (each-append Section p.raws [] p.front [] p.each refl) in
-    let a9 : CustomsAre m9 c9 = p.are [] [] refl in
-    let m8 = t.segments.raws ++ m9 in
-    let c8 = t.segments.customs ++ c9 in
-    let o8 : (b : ℕ) → b ≤ 10 → InOrder b m8 = λ b le. t.segments.order b m9 (omega arith) o9 in
-    let e8 : Each Section m8 t.r3 = subst (Each Section m8) (sym t.segments.whole) (each-append Section t.segments.raws m9 t.segments.front r8 t.segments.each e9) in
-    let a8 : CustomsAre m8 c8 = t.segments.are m9 c9 a9 in
-    let m7 = t.codes.raws ++ m8 in
-    let c7 = t.codes.customs ++ c8 in
-    let o7 : (b : ℕ) → b ≤ 7 → InOrder b m7 = λ b le. t.codes.order b m8 (omega arith) o8 in
-    let e7 : Each Section m7 t.r2 = subst (Each Section m7) (sym t.codes.whole) (each-append Section t.codes.raws m8 t.codes.front t.r3 t.codes.each e8) in
-    let a7 : CustomsAre m7 c7 = t.codes.are m8 c8 a8 in
-    let m6 = t.exports.raws ++ m7 in
-    let c6 = t.exports.customs ++ c7 in
-    let o6 : (b : ℕ) → b ≤ 6 → InOrder b m6 = λ b le. t.exports.order b m7 (omega arith) o7 in
-    let e6 : Each Section m6 t.r1 = subst (Each Section m6) (sym t.exports.whole) (each-append Section t.exports.raws m7 t.exports.front t.r2 t.exports.each e7) in
-    let a6 : CustomsAre m6 c6 = t.exports.are m7 c7 a7 in
-    let m5 = t.globals.raws ++ m6 in
-    let c5 = t.globals.customs ++ c6 in
-    let o5 : (b : ℕ) → b ≤ 5 → InOrder b m5 = λ b le. t.globals.order b m6 (omega arith) o6 in
-    let e5 : Each Section m5 r4 = subst (Each Section m5) (sym t.globals.whole) (each-append Section t.globals.raws m6 t.globals.front t.r1 t.globals.each e6) in
-    let a5 : CustomsAre m5 c5 = t.globals.are m6 c6 a6 in
-    let m4 = h.memory.raws ++ m5 in
-    let c4 = h.memory.customs ++ c5 in
-    let o4 : (b : ℕ) → b ≤ 3 → InOrder b m4 = λ b le. h.memory.order b m5 (omega arith) o5 in
-    let e4 : Each Section m4 h.r3 = subst (Each Section m4) (sym h.memory.whole) (each-append Section h.memory.raws m5 h.memory.front r4 h.memory.each e5) in
-    let a4 : CustomsAre m4 c4 = h.memory.are m5 c5 a5 in
-    let m3 = h.functions.raws ++ m4 in
-    let c3 = h.functions.customs ++ c4 in
-    let o3 : (b : ℕ) → b ≤ 2 → InOrder b m3 = λ b le. h.functions.order b m4 (omega arith) o4 in
-    let e3 : Each Section m3 h.r2 = subst (Each Section m3) (sym h.functions.whole) (each-append Section h.functions.raws m4 h.functions.front h.r3 h.functions.each e4) in
-    let a3 : CustomsAre m3 c3 = h.functions.are m4 c4 a4 in
-    let m2 = h.imports.raws ++ m3 in
-    let c2 = h.imports.customs ++ c3 in
-    let o2 : (b : ℕ) → b ≤ 1 → InOrder b m2 = λ b le. h.imports.order b m3 (omega arith) o3 in
-    let e2 : Each Section m2 h.r1 = subst (Each Section m2) (sym h.imports.whole) (each-append Section h.imports.raws m3 h.imports.front h.r2 h.imports.each e3) in
-    let a2 : CustomsAre m2 c2 = h.imports.are m3 c3 a3 in
-    let m1 = h.types.raws ++ m2 in
-    let c1 = h.types.customs ++ c2 in
-    let o1 : (b : ℕ) → b ≤ 0 → InOrder b m1 = λ b le. h.types.order b m2 (omega arith) o2 in
-    let e1 : Each Section m1 rest0 = subst (Each Section m1) (sym h.types.whole) (each-append Section h.types.raws m2 h.types.front h.r1 h.types.each e2) in
-    let a1 : CustomsAre m1 c1 = h.types.are m2 c2 a2 in
-    (m1, o1 0 (omega arith), record { front = header; back = rest0; whole = w; first = refl; second = e1 }, lists-along Index 3 m1 m3 head.functions (h.types.others 3 (omega arith) m2 ∙ h.imports.others 3 (omega arith) m3) (h.functions.lists m4 o4), lists-along Body 10 m1 m7 tail.codes (h.types.others 10 (omega arith) m2 ∙ h.imports.others 10 (omega arith) m3 ∙ h.functions.others 10 (omega arith) m4 ∙ h.memory.others 10 (omega arith) m5 ∙ t.globals.others 10 (omega arith) m6 ∙ t.exports.others 10 (omega arith) m7) (t.codes.lists m8 o8))
-
-pub module-found : (bytes : List ℕ) (m : Module) → module_at bytes ≡ Ok m → Spelled bytes m
+-- what is read is spelled, and what is refused fails
+pub module-ends : (bytes : List ℕ) → Ends (Spelled bytes) (Fails bytes) (module_at bytes)
 unfolding module_at
-module-found bytes m e =
-    let a = bind_ok (header_at header bytes) (λ rest. head_at start rest >>= λ head. tail_at head.0.1 head.1 >>= λ tail. customs_at (length tail.1) tail.0.1 tail.1 >>= λ last.
-    cond (eqb (length last.1) 0) (cond (eqb (length head.0.0.functions) (length tail.0.0.codes)) (Ok (whole_of head.0.0 tail.0.0 last.0)) (Err (at rule.Size 0))) (Err (at rule.Section (length last.1)))) m e in
-    let h = bind_ok (head_at start a.0) (λ head. tail_at head.0.1 head.1 >>= λ tail. customs_at (length tail.1) tail.0.1 tail.1 >>= λ last.
-    cond (eqb (length last.1) 0) (cond (eqb (length head.0.0.functions) (length tail.0.0.codes)) (Ok (whole_of head.0.0 tail.0.0 last.0)) (Err (at rule.Size 0))) (Err (at rule.Section (length last.1)))) m a.2 in
-    let t = bind_ok (tail_at h.0.0.1 h.0.1) (λ tail. customs_at (length tail.1) tail.0.1 tail.1 >>= λ last.
-    cond (eqb (length last.1) 0) (cond (eqb (length h.0.0.0.functions) (length tail.0.0.codes)) (Ok (whole_of h.0.0.0 tail.0.0 last.0)) (Err (at rule.Size 0))) (Err (at rule.Section (length last.1)))) m h.2 in
-    let l = bind_ok (customs_at (length t.0.1) t.0.0.1 t.0.1) (λ last.
-    cond (eqb (length last.1) 0) (cond (eqb (length h.0.0.0.functions) (length t.0.0.0.codes)) (Ok (whole_of h.0.0.0 t.0.0.0 last.0)) (Err (at rule.Size 0))) (Err (at rule.Section (length last.1)))) m t.2 in
-    let p = customs-found (length t.0.1) t.0.0.1 t.0.1 l.0.0 l.0.1 l.1 in
-    elim (chosen (eqb (length l.0.1) 0) _ (Err (at rule.Section (length l.0.1))) (Ok m) l.2) [
-      | inl k ↦
-          elim (chosen (eqb (length h.0.0.0.functions) (length t.0.0.0.codes)) (Ok (whole_of h.0.0.0 t.0.0.0 l.0.0)) (Err (at rule.Size 0)) (Ok m) k.1) [
-            | inl same ↦
-                let none : l.0.1 ≡ [] = nil_from_length l.0.1 (eqb-true _ _ k.0) in
-                let passed : Passed t.0.0.1 t.0.1 l.0.0 [] = subst (Passed t.0.0.1 t.0.1 l.0.0) none p in
-                subst (Spelled bytes) (ok_is (whole_of h.0.0.0 t.0.0.0 l.0.0) m same.1)
-                (spelled bytes a.0 h.0.1 t.0.1 h.0.0.1 t.0.0.1 l.0.0 h.0.0.0 t.0.0.0 (header-found header bytes a.0 a.1) (head-found start a.0 h.0.0.0 h.0.0.1 h.0.1 h.1) (tail-found h.0.0.1 h.0.1 t.0.0.0 t.0.0.1 t.0.1 t.1) passed (eqb-true _ _ same.0))
-            | inr same ↦ absurd (cc same.1)
-          ]
-      | inr k ↦ absurd (cc k.1)
-    ]
+module-ends bytes =
+    step _ _ _ _ (header_at header bytes) _ (header-end header bytes)
+    (λ x o. (inl (ap (λ (y : Fault). y.rule) o.5, o.0, o.1, o.2, o.3, o.4, ap (λ (y : Fault). y.left) o.5, o.6), omega (arith, ap (λ (y : Fault). y.left) o.5, ap length o.3, length-append o.0 o.1))) (λ rest w.
+    step _ _ _ _ (head_at begin rest) _ (head-ends rest) (λ x s. behind_header bytes rest x w s) (λ head h.
+    step _ _ _ _ (tail_at head.0.1 head.1) _ (tail-ends rest head.0.1 head.1 h.upto) (λ x s. behind_header bytes rest x w s) (λ tail t.
+    step _ _ _ _ (customs_at (length tail.1) tail.0.1 tail.1) _ (customs-end (length tail.1) tail.0.1 tail.1 (omega arith)) (λ x s. behind_header bytes rest x w (skip-stopped 11 rest tail.1 tail.0.1 x t.upto s)) (λ last s.
+    finish bytes rest w head.0.0 head.0.1 head.1 h tail.0.0 tail.0.1 tail.1 t last.0 last.1 s))))
+
+-- what is read is spelled
+pub module-found : (bytes : List ℕ) (m : Module) → module_at bytes ≡ Ok m → Spelled bytes m
+module-found bytes m e = ends_ok (Spelled bytes) (Fails bytes) (module_at bytes) m (module-ends bytes) e
+
+-- the first fault of reading, at its offset
+pub fails-at : (bytes : List ℕ) (x : Fault) → module_at bytes ≡ Err x → FailsAt x.rule (length bytes - x.left) bytes
+fails-at bytes x e = let f = ends_err (Spelled bytes) (Fails bytes) (module_at bytes) x (module-ends bytes) e in (x.left, omega (arith, f.1), f.0)
 
 -- ---- read again
 
@@ -266,7 +205,7 @@ module-found bytes m e =
 pub record Ahead (raws : List Raw) (customs : List Custom) (b : ℕ) (found : Found) (bytes : List ℕ) : Type 0 where
   pub more : List Raw
   pub cs : List Custom
-  pub each : Each Section more bytes
+  pub each : Each RawSection more bytes
   pub order : InOrder b more
   pub are : CustomsAre more cs
   pub others : (j : ℕ) → b < j → contents_of j more ≡ contents_of j raws
@@ -278,35 +217,35 @@ pub record Onward {A : Type 0} (raws : List Raw) (customs : List Custom) (id : �
   pub reads : read ≡ Ok ((xs, after), rest)
   pub ahead : Ahead raws customs id after rest
 
-onward : {A : Type 0} (P : A → List ℕ → Type 0) (f : Reader A) (b id : ℕ) → Spells P f → 0 < id → b < id → AreNext b id → (raws : List Raw) (customs : List Custom) (found : Found) (bytes : List ℕ) (xs : List A)
+onward : {A : Type 0} (P : A → List ℕ → Type 0) (F : ModuleRule → ℕ → List ℕ → Type 0) (f : Reader A) (b id : ℕ) → Stage P F f b id → (raws : List Raw) (customs : List Custom) (found : Found) (bytes : List ℕ) (xs : List A)
     → Ahead raws customs b found bytes → Lists P id raws xs → Onward raws customs id xs (section_at f id found bytes)
-onward P f b id sf some lt next raws customs found bytes xs h lists =
-    let t = section-again P f b id sf some lt next found h.more h.cs bytes xs h.each h.order h.are (lists-along P id h.more raws xs (h.others id lt) lists) in
+onward P F f b id s raws customs found bytes xs h lists =
+    let t = section-again P f b id s.reads.spells (omega (arith, s.lt)) s.lt s.next found h.more h.cs bytes xs h.each h.order h.are (lists-along P id h.more raws xs (h.others id s.lt) lists) in
     record {
       after = t.after;
       rest = t.bytes;
       reads = t.reads;
-      ahead = record { more = t.more; cs = t.cs; each = t.each; order = t.order; are = t.are; others = λ j more. t.others j more ∙ h.others j (omega arith); all = t.all ∙ h.all };
+      ahead = record { more = t.more; cs = t.cs; each = t.each; order = t.order; are = t.are; others = λ j more. t.others j more ∙ h.others j (omega (arith, s.lt)); all = t.all ∙ h.all };
     }
 
 head-again : (raws : List Raw) (customs : List Custom) (m : Module) (found : Found) (bytes : List ℕ) → Ahead raws customs 0 found bytes → Lists Type_of_function 1 raws m.types → Lists Imported 2 raws m.imports → Lists Index 3 raws m.functions → Lists Memory 5 raws m.memory
     → (after : Found) × (rest : List ℕ) × (head_at found bytes ≡ Ok ((record { types = m.types; imports = m.imports; functions = m.functions; memory = m.memory }, after), rest)) × Ahead raws customs 5 after rest
 unfolding head_at
 head-again raws customs m found bytes h l0 l1 l2 l3 =
-    let t0 = onward Type_of_function function_type_at 0 1 function_type-spells (omega arith) (omega arith) refl raws customs found bytes m.types h l0 in
-    let t1 = onward Imported import_at 1 2 import-spells (omega arith) (omega arith) refl raws customs t0.after t0.rest m.imports t0.ahead l1 in
-    let t2 = onward Index index_at 2 3 index-spells (omega arith) (omega arith) refl raws customs t1.after t1.rest m.functions t1.ahead l2 in
-    let t3 = onward Memory memory_at 3 5 memory-spells (omega arith) (omega arith) refl raws customs t2.after t2.rest m.memory t2.ahead l3 in
+    let t0 = onward Type_of_function NoFunctionType function_type_at 0 1 types-stage raws customs found bytes m.types h l0 in
+    let t1 = onward Imported NoImport import_at 1 2 imports-stage raws customs t0.after t0.rest m.imports t0.ahead l1 in
+    let t2 = onward Index NoIndex index_at 2 3 functions-stage raws customs t1.after t1.rest m.functions t1.ahead l2 in
+    let t3 = onward Memory NoMemory memory_at 3 5 memory-stage raws customs t2.after t2.rest m.memory t2.ahead l3 in
     (t3.after, t3.rest, rw (t0.reads, t1.reads, t2.reads, t3.reads) refl, t3.ahead)
 
 tail-again : (raws : List Raw) (customs : List Custom) (m : Module) (found : Found) (bytes : List ℕ) → Ahead raws customs 5 found bytes → Lists Global 6 raws m.globals → Lists Exported 7 raws m.exports → Lists Body 10 raws m.codes → Lists Data 11 raws m.segments
     → (after : Found) × (rest : List ℕ) × (tail_at found bytes ≡ Ok ((record { globals = m.globals; exports = m.exports; codes = m.codes; segments = m.segments }, after), rest)) × Ahead raws customs 11 after rest
 unfolding tail_at
 tail-again raws customs m found bytes h l0 l1 l2 l3 =
-    let t0 = onward Global global_at 5 6 global-spells (omega arith) (omega arith) refl raws customs found bytes m.globals h l0 in
-    let t1 = onward Exported export_at 6 7 export-spells (omega arith) (omega arith) refl raws customs t0.after t0.rest m.exports t0.ahead l1 in
-    let t2 = onward Body (filled_at body_at) 7 10 body-spells (omega arith) (omega arith) refl raws customs t1.after t1.rest m.codes t1.ahead l2 in
-    let t3 = onward Data segment_at 10 11 segment-spells (omega arith) (omega arith) refl raws customs t2.after t2.rest m.segments t2.ahead l3 in
+    let t0 = onward Global NoGlobal global_at 5 6 globals-stage raws customs found bytes m.globals h l0 in
+    let t1 = onward Exported NoExport export_at 6 7 exports-stage raws customs t0.after t0.rest m.exports t0.ahead l1 in
+    let t2 = onward Body NoBody (filled_at body_at) 7 10 codes-stage raws customs t1.after t1.rest m.codes t1.ahead l2 in
+    let t3 = onward Data NoData segment_at 10 11 segments-stage raws customs t2.after t2.rest m.segments t2.ahead l3 in
     (t3.after, t3.rest, rw (t0.reads, t1.reads, t2.reads, t3.reads) refl, t3.ahead)
 
 no_customs : (raws : List Raw) (cs : List Custom) → raws ≡ [] → CustomsAre raws cs → cs ≡ []
@@ -328,9 +267,13 @@ unfolding module_at
 module-again bytes m s =
     let w = s.whole in
     let first : header_at header bytes ≡ Ok w.back = ap (header_at header) (w.whole ∙ ap (λ (l : List ℕ). l ++ w.back) w.first) ∙ header-again header w.back in
-    let begun : Ahead s.raws (total start s.found) 0 start w.back = record { more = s.raws; cs = s.found; each = w.second; order = s.order; are = s.customs; others = λ j some. refl; all = refl } in
-    let h = head-again s.raws (total start s.found) m start w.back begun s.types s.imports s.functions s.memory in
-    let t = tail-again s.raws (total start s.found) m h.0 h.1 h.3 s.globals s.exports s.codes s.segments in
-    let l = last-again s.raws (total start s.found) t.0 t.1 t.3 in
+    let begun : Ahead s.raws (total begin s.found) 0 begin w.back = record { more = s.raws; cs = s.found; each = w.second; order = s.order; are = s.customs; others = λ j some. refl; all = refl } in
+    let h = head-again s.raws (total begin s.found) m begin w.back begun s.types s.imports s.functions s.memory in
+    let t = tail-again s.raws (total begin s.found) m h.0 h.1 h.3 s.globals s.exports s.codes s.segments in
+    let l = last-again s.raws (total begin s.found) t.0 t.1 t.3 in
     let all : l.0.others ++ l.0.named ≡ m.customs = l.2 ∙ sym s.sorted in
     rw (first, h.2, t.2, l.1, eq-eqb (length m.functions) (length m.codes) s.bodies, all) refl
+
+-- what is spelled is what is read, so it is one module
+pub spelled_once : (bytes : List ℕ) (m n : Module) → Spelled bytes m → Spelled bytes n → m ≡ n
+spelled_once bytes m n s t = ok_is m n (sym (module-again bytes m s) ∙ module-again bytes n t)

@@ -1,11 +1,10 @@
 -- Reading a name, step by step.
-use Rattle.std.proofs.Common.{◌≡◌, ℕ, ◌-◌, ◌≤◌, Bool, true, false, List, length, take, drop, Ok, Err, refl}
-use Rattle.std.proofs.lemmas.Bool.{le-ltb}
+use Rattle.std.proofs.Common.{◌≡◌, ℕ, ◌-◌, Bool, true, false, List, length, Ok, Err, refl}
 use Rattle.std.proofs.lemmas.Str.{is_utf8-from_IsUtf8, IsUtf8-from_is_utf8}
 use Rattle.std.specs.Str.{IsUtf8, is_utf8}
 use Rattle.std.specs.Str.Lossy.{utf8_valid_len}
 use Rattle.wasm_tree.specs.declared.failure.ModuleRule.TheVariants as rule
-use Rattle.wasm_reader.specs.Reading.{at, index_at, name_at}
+use Rattle.wasm_reader.specs.Reading.{at, index_at, take_at, utf8_at, name_at}
 
 pub no_utf8 : (text : List ℕ) → ¬ (IsUtf8 text) → is_utf8 text ≡ false
 no_utf8 text h = tested (is_utf8 text) (λ e. h (IsUtf8-from_is_utf8 text e)) where
@@ -13,13 +12,10 @@ no_utf8 text h = tested (is_utf8 text) (λ e. h (IsUtf8-from_is_utf8 text e)) wh
   tested true h = absurd (h refl)
   tested false h = refl
 
-pub name-gives : (bytes : List ℕ) (n : ℕ) (rest text after name : List ℕ) → index_at bytes ≡ Ok (n, rest) → n ≤ length rest → text ≡ take n rest → after ≡ drop n rest → name ≡ text
-    → IsUtf8 text → name_at bytes ≡ Ok (name, after)
-unfolding name_at
-name-gives bytes n rest text after name e le t a is utf8 =
-    rw (is, a, e, le-ltb (length rest) n le, ← t, is_utf8-from_IsUtf8 text utf8) refl
+pub name-gives : (bytes : List ℕ) (n : ℕ) (rest text after name : List ℕ) → index_at bytes ≡ Ok (n, rest) → take_at n rest ≡ Ok (text, after) → name ≡ text → IsUtf8 text → name_at bytes ≡ Ok (name, after)
+unfolding name_at utf8_at
+name-gives bytes n rest text after name e t is utf8 = rw (is, e, t, is_utf8-from_IsUtf8 text utf8) refl
 
-pub name-ill : (bytes : List ℕ) (n : ℕ) (rest text : List ℕ) → index_at bytes ≡ Ok (n, rest) → n ≤ length rest → text ≡ take n rest
-    → ¬ (IsUtf8 text) → name_at bytes ≡ Err (at rule.Text (length rest - utf8_valid_len text))
-unfolding name_at
-name-ill bytes n rest text e le t ill = rw (e, le-ltb (length rest) n le, ← t, no_utf8 text ill) refl
+pub name-ill : (bytes : List ℕ) (n : ℕ) (rest text after : List ℕ) → index_at bytes ≡ Ok (n, rest) → take_at n rest ≡ Ok (text, after) → ¬ (IsUtf8 text) → name_at bytes ≡ Err (at rule.Text (length rest - utf8_valid_len text))
+unfolding name_at utf8_at
+name-ill bytes n rest text after e t ill = rw (e, t, no_utf8 text ill) refl

@@ -1,434 +1,319 @@
--- The same for sections, one after another, and for the module.
-use Rattle.std.proofs.Common.{◌≡◌, ℕ, zero, suc, ◌≤◌, ◌<◌, Bool, true, false, not, cond, eqb, leb, eq-eqb, List, [], ◌∷◌, ◌++◌, length, get_or, Option, Some, None, Result, Ok, refl, sym, ap, subst, ◌∙◌, append_assoc, arith, ◌⊎◌, inl, inr}
-use Rattle.std.specs.Prelude.{◌&&◌, ◌||◌, Contains, filter, MatchOption}
-use Rattle.std.specs.List.{list_all}
-use Rattle.std.proofs.lemmas.Bool.{eqb-true, ne_eqb, eqb-false, leb-true}
+-- Sections that are read, one after another, are spelled and in order; where one isn't read, a rule fails there.
+use Rattle.std.proofs.Common.{◌≡◌, ℕ, zero, suc, ◌≤◌, ◌<◌, leb, List, [], ◌∷◌, ◌++◌, length, Option, Some, None, Ok, Err, refl, sym, ap, subst, ◌∙◌, append_assoc, arith, ◌⊎◌, inl, inr}
+use Rattle.std.specs.Prelude.{Contains}
+use Rattle.std.proofs.lemmas.Bool.{ne_eqb, leb-true}
 use Rattle.std.proofs.lemmas.List.{append-nil, length-append}
+use Rattle.wasm_tree.specs.declared.failure.ModuleRule.{ModuleRule}
+use Rattle.wasm_tree.specs.declared.failure.ModuleRule.TheVariants as rule
 use Rattle.wasm_tree.specs.declared.module.Custom.{Custom}
-use Rattle.wasm_tree.specs.Spelled.{Each, Text, Vector, Sized, Raw, Section, ids, InOrder, contents_of, Lists, Custom_contents, CustomsAre, cmajor, is_text}
+use Rattle.wasm_tree.specs.Spelled.{Each, Vector, Sized, Raw, RawSection, ids, InOrder, contents_of, Lists, Custom_contents, CustomsAre}
 use Rattle.wasm_reader.specs.declared.fault.Fault.{Fault}
 use Rattle.wasm_reader.specs.declared.section.Found.{Found}
-use Rattle.wasm_reader.specs.Reading.{◌>>=◌, Reader, vector_at, filled_at, custom_at, with_custom, behind_id, choice, customs_at, listed_at, section_at}
-use Rattle.wasm_reader.proofs.Steps.{ok_is}
-use Rattle.wasm_reader.proofs.Laws.{Spells, bind_ok, chosen, fills, filled-spells, vector-spells}
+use Rattle.wasm_reader.specs.Fault.{NoVector, NoneSized, NoName, OfKind, Holds, AllHold, last_id, MayFollow, NoSection}
+use Rattle.wasm_reader.specs.Reading.{◌>>=◌, at, Reader, name_at, custom_at, vector_at, filled_at, with_custom, behind_id, choice, customs_at, section_at}
+use Rattle.wasm_reader.proofs.Laws.{Taken, Spells, fills, filled-spells}
 use Rattle.wasm_reader.proofs.NumberLaws.{index-spells}
-use Rattle.wasm_reader.proofs.PartLaws.{custom-fills}
+use Rattle.wasm_reader.proofs.PartLaws.{custom-fills, name-spells}
+use Rattle.wasm_reader.proofs.FaultLaws.{Breaks, name-breaks, filled-breaks}
+use Rattle.wasm_reader.proofs.Fields.{Reads, vector-reads}
+use Rattle.wasm_reader.proofs.Ends.{Ends, step, weaker, by_ends, ends_ok, ends_err}
+use Rattle.wasm_reader.proofs.Sections.{total, total-with, begin, each-append, InOrder-append, last_id-append, AllHold-append, CustomsAre-append, contents-before, contents-behind, passed_over, found_here, lists-by, tested, AreNext, next_id, behind-found, behind-here}
 
--- ---- the sections so far, and those to come
+-- ---- a piece of the bytes that is spelled by sections
 
-named : Custom → Bool
-named c = is_text c.name cmajor
-
-abbrev pub total : Found → List Custom → List Custom
-total found customs = (found.others ++ filter (λ custom. not (is_text custom.name cmajor)) customs) ++ (found.named ++ filter (λ custom. is_text custom.name cmajor) customs)
-
-total-by : (b : Bool) (others named cs ds : List Custom) (c : Custom) →
-    let g : Found = cond b (record { others = others; named = named ++ c ∷ [] }) (record { others = others ++ c ∷ []; named = named }) in
-    (g.others ++ cs) ++ (g.named ++ ds) ≡ (others ++ cond (not b) (c ∷ cs) cs) ++ (named ++ cond b (c ∷ ds) ds)
-total-by true others named cs ds c = ap (λ (l : List Custom). (others ++ cs) ++ l) (append_assoc named (c ∷ []) ds)
-total-by false others named cs ds c = ap (λ (l : List Custom). l ++ (named ++ ds)) (append_assoc others (c ∷ []) cs)
-
-pub total-with : (found : Found) (c : Custom) (cs : List Custom) → total (with_custom c found) cs ≡ total found (c ∷ cs)
-total-with found c cs =
-    total-by (is_text c.name cmajor) found.others found.named (filter (λ custom. not (is_text custom.name cmajor)) cs) (filter (λ custom. is_text custom.name cmajor) cs) c
-
-pub each-append : {A : Type 0} (P : A → List ℕ → Type 0) (xs ys : List A) (a b : List ℕ) → Each P xs a → Each P ys b → Each P (xs ++ ys) (a ++ b)
-each-append P [] ys a b h k = subst (λ (l : List ℕ). Each P ys (l ++ b)) (sym h) k
-each-append P (x ∷ xs) ys a b h k =
-    record { front = h.front; back = h.back ++ b; whole = ap (λ (l : List ℕ). l ++ b) h.whole ∙ append_assoc h.front h.back b; first = h.first; second = each-append P xs ys h.back b h.second k }
-
-pub none_below : (b j : ℕ) (raws : List Raw) → InOrder b raws → 0 < j → j ≤ b → contents_of j raws ≡ None
-none_below b j [] h some le = refl
-none_below b j (raw ∷ raws) (inl h) some le =
-    let apart : raw.id ≡ j → ⊥ = λ (e : raw.id ≡ j). absurd (omega (arith, h.0)) in
-    rw (ne_eqb raw.id j apart) (none_below b j raws h.1 some le)
-none_below b j (raw ∷ raws) (inr h) some le =
-    let apart : raw.id ≡ j → ⊥ = λ (e : raw.id ≡ j). absurd (omega (arith, h.0)) in
-    rw (ne_eqb raw.id j apart) (none_below raw.id j raws h.2 some (omega (arith, h.0)))
-
--- ---- the byte before a section
-
-pub behind-found : (id : ℕ) (bytes contents : List ℕ) → behind_id id bytes ≡ Some contents → bytes ≡ id ∷ contents
-unfolding behind_id
-behind-found id [] contents e = absurd cc
-behind-found id (b ∷ bytes) contents e =
-    elim (chosen (eqb b id) (Some bytes) None (Some contents) e) [
-      | inl h ↦ cc (eqb-true b id h.0, h.1)
-      | inr h ↦ absurd (cc h.1)
-    ]
-
-pub behind-here : (id : ℕ) (contents : List ℕ) → behind_id id (id ∷ contents) ≡ Some contents
-unfolding behind_id
-behind-here id contents = rw (eq-eqb id id refl) refl
-
-behind-other : (id b : ℕ) (bytes : List ℕ) → (b ≡ id → ⊥) → behind_id id (b ∷ bytes) ≡ None
-unfolding behind_id
-behind-other id b bytes apart = rw (ne_eqb b id apart) refl
-
-behind-none : (id : ℕ) → behind_id id [] ≡ None
-unfolding behind_id
-behind-none id = refl
-
--- a section, as its id and what stands behind it
-section_is : (raw : Raw) (bytes : List ℕ) → Section raw bytes → (text : List ℕ) × (bytes ≡ raw.id ∷ text) × Text raw.contents text
-section_is raw bytes h = (h.back, h.whole ∙ ap (λ (l : List ℕ). l ++ h.back) h.first, h.second)
-
--- ---- what was read
-
-pub record Passed (found : Found) (bytes : List ℕ) (after : Found) (rest : List ℕ) : Type 0 where
+pub record Piece (bytes rest : List ℕ) : Type 0 where
   pub raws : List Raw
   pub customs : List Custom
   pub front : List ℕ
   pub whole : bytes ≡ front ++ rest
-  pub each : Each Section raws front
-  pub order : (b : ℕ) (more : List Raw) → InOrder b more → InOrder b (raws ++ more)
-  pub others : (j : ℕ) → 0 < j → (more : List Raw) → contents_of j (raws ++ more) ≡ contents_of j more
-  pub are : (more : List Raw) (cs : List Custom) → CustomsAre more cs → CustomsAre (raws ++ more) (customs ++ cs)
-  pub all : (cs : List Custom) → total after cs ≡ total found (customs ++ cs)
+  pub each : Each RawSection raws front
+  pub hold : AllHold raws
+  pub are : CustomsAre raws customs
 
-here : (id : ℕ) (contents : List ℕ) (more : List Raw) → contents_of id ((record { id = id; contents = contents }) ∷ more) ≡ Some contents
-here id contents more = rw (eq-eqb id id refl) refl
+-- no section, of no bytes
+abbrev pub nothing : (bytes : List ℕ) → Piece bytes bytes
+nothing bytes = record { raws = []; customs = []; front = []; whole = refl; each = refl; hold = tt; are = refl }
 
-above : (id j : ℕ) → id < j → (contents : List ℕ) (more : List Raw) → contents_of j ((record { id = id; contents = contents }) ∷ more) ≡ contents_of j more
-above id j lt contents more =
-    let apart : id ≡ j → ⊥ = λ (e : id ≡ j). absurd (omega arith) in
-    rw (ne_eqb id j apart) refl
+-- a piece behind a piece
+abbrev pub joined : {a b c : List ℕ} → Piece a b → Piece b c → Piece a c
+joined {a} {b} {c} p q = record {
+  raws = p.raws ++ q.raws;
+  customs = p.customs ++ q.customs;
+  front = p.front ++ q.front;
+  whole = p.whole ∙ ap (λ (l : List ℕ). p.front ++ l) q.whole ∙ sym (append_assoc p.front q.front c);
+  each = each-append RawSection p.raws q.raws p.front q.front p.each q.each;
+  hold = AllHold-append p.raws q.raws p.hold q.hold;
+  are = CustomsAre-append p.raws q.raws p.customs q.customs p.are q.are;
+}
 
-skips : (raw : Raw) (more : List Raw) (cs : List Custom) → 0 < raw.id → CustomsAre more cs → CustomsAre (raw ∷ more) cs
-skips raw more [] some h = (some, h)
-skips raw more (c ∷ cs) some h = inr (some, h)
+-- one section, whose contents behind its id were taken
+abbrev single : {A : Type 0} (P : A → List ℕ → Type 0) (id : ℕ) (bytes contents : List ℕ) (x : A) (rest : List ℕ) → bytes ≡ id ∷ contents → (t : Taken (λ x. Sized (P x)) contents x rest) → Holds id t.spelled.0
+    → (customs : List Custom) → CustomsAre ((record { id = id; contents = t.spelled.0 }) ∷ []) customs → Piece bytes rest
+single P id bytes contents x rest is t holds customs are = record {
+  raws = (record { id = id; contents = t.spelled.0 }) ∷ [];
+  customs = customs;
+  front = id ∷ t.front;
+  whole = is ∙ ap (λ (l : List ℕ). id ∷ l) t.whole;
+  each = record { front = id ∷ t.front; back = []; whole = sym (append-nil (id ∷ t.front)); first = record { front = id ∷ []; back = t.front; whole = refl; first = refl; second = t.spelled.1 }; second = refl };
+  hold = (holds, tt);
+  are = are;
+}
 
+-- ---- custom sections
+
+abbrev AllCustom : List Raw → Type 0
+AllCustom [] = Unit {0}
+AllCustom (raw ∷ raws) = (raw.id ≡ 0) × AllCustom raws
+
+-- custom sections stand in order behind any id
+custom-order : (raws : List Raw) (b : ℕ) → AllCustom raws → InOrder b raws
+custom-order [] b h = tt
+custom-order (raw ∷ raws) b h = inl (h.0, custom-order raws b h.1)
+
+-- custom sections leave the last id as it is
+custom-last : (raws : List Raw) (b : ℕ) → AllCustom raws → last_id b raws ≡ b
+custom-last [] b h = refl
+custom-last (raw ∷ raws) b h = rw h.0 (custom-last raws b h.1)
+
+-- no custom section has another id
+custom-others : (raws : List Raw) (j : ℕ) → 0 < j → AllCustom raws → contents_of j raws ≡ None
+custom-others [] j some h = refl
+custom-others (raw ∷ raws) j some h = passed_over j raw raws (λ (e : raw.id ≡ j). absurd (omega (arith, h.0))) ∙ custom-others raws j some h.1
+
+-- the custom sections at the front are passed over
+pub record Skipped (found : Found) (bytes : List ℕ) (after : Found) (rest : List ℕ) : Type 0 where
+  pub piece : Piece bytes rest
+  pub custom : AllCustom piece.raws
+  pub all : (cs : List Custom) → total after cs ≡ total found (piece.customs ++ cs)
+  pub stops : (b : ℕ) (more : List ℕ) → rest ≡ b ∷ more → b ≡ 0 → ⊥
+  pub same : (rest ≡ bytes) ⊎ ((more : List ℕ) × (bytes ≡ 0 ∷ more))
+
+-- behind some of them, one fails
+pub record SkipFails (bytes : List ℕ) (x : Fault) : Type 0 where
+  pub back : List ℕ
+  pub piece : Piece bytes (0 ∷ back)
+  pub custom : AllCustom piece.raws
+  pub fails : NoneSized Custom_contents NoName x.rule x.left back
+  pub within : x.left ≤ length back
+
+-- where no bytes are found behind an id, the first byte is another
+none-first : (id b : ℕ) (bytes more : List ℕ) → behind_id id bytes ≡ None → bytes ≡ b ∷ more → b ≡ id → ⊥
+none-first id b bytes more e w is =
+    let here : behind_id id bytes ≡ Some more = ap (behind_id id) (w ∙ ap (λ (x : ℕ). x ∷ more) is) ∙ behind-here id more in
+    absurd (cc (here, e))
+
+-- how one custom section behind its id ends
 pub custom-spells : Spells (λ x. Sized (Custom_contents x)) (filled_at custom_at)
 custom-spells = filled-spells Custom_contents custom_at index-spells custom-fills
 
-pub nothing_passed : (found : Found) (bytes : List ℕ) → Passed found bytes found bytes
-nothing_passed found bytes = record { raws = []; customs = []; front = []; whole = refl; each = refl; order = λ b more h. h; others = λ j some more. refl; are = λ more cs h. h; all = λ cs. refl }
+custom-breaks : Breaks (NoneSized Custom_contents NoName) (filled_at custom_at)
+unfolding custom_at
+custom-breaks = filled-breaks Custom_contents NoName custom_at taken (record { fails = λ bytes x e. (ends bytes x e).0; within = λ bytes x e. (ends bytes x e).1 }) where
+  taken : (bytes : List ℕ) (x : Custom) (rest : List ℕ) → custom_at bytes ≡ Ok (x, rest) → Taken Custom_contents bytes x rest
+  taken bytes x rest e =
+      ends_ok (λ (y : Custom × List ℕ). Taken Custom_contents bytes y.0 y.1) (λ x. Unit {0}) (custom_at bytes) (x, rest)
+      (step (λ (n : List ℕ × List ℕ). name_at bytes ≡ Ok n) (λ x. Unit {0}) _ _ (name_at bytes) _ (by_ends _ _ (name_at bytes) (λ n e. e) (λ x e. tt)) (λ x e. tt)
+      (λ n e. let t = name-spells.found bytes n.0 n.1 e in record { front = bytes; whole = sym (append-nil bytes); spelled = record { front = t.front; back = n.1; whole = t.whole; first = t.spelled; second = refl } })) e
 
-pub customs-found : (n : ℕ) (found : Found) (bytes : List ℕ) (after : Found) (rest : List ℕ) → customs_at n found bytes ≡ Ok (after, rest) → Passed found bytes after rest
+  ends : (bytes : List ℕ) (x : Fault) → custom_at bytes ≡ Err x → NoName x.rule x.left bytes × (x.left ≤ length bytes)
+  ends bytes x e =
+      ends_err (λ (y : Custom × List ℕ). Unit {0}) (λ x. NoName x.rule x.left bytes × (x.left ≤ length bytes)) (custom_at bytes) x
+      (step (λ (n : List ℕ × List ℕ). Unit {0}) (λ x. NoName x.rule x.left bytes × (x.left ≤ length bytes)) _ _ (name_at bytes) _ (by_ends _ _ (name_at bytes) (λ n e. tt) (λ x e. (name-breaks.fails bytes x e, name-breaks.within bytes x e))) (λ x e. e)
+      (λ n e. tt)) e
+
+-- where no custom section begins, none is passed over
+stay : (found : Found) (bytes : List ℕ) → ((b : ℕ) (more : List ℕ) → bytes ≡ b ∷ more → b ≡ 0 → ⊥) → Skipped found bytes found bytes
+stay found bytes stops = record { piece = nothing bytes; custom = tt; all = λ cs. refl; stops = stops; same = inl refl }
+
+-- custom sections are passed over, or behind some of them one fails
+pub customs-end : (n : ℕ) (found : Found) (bytes : List ℕ) → length bytes ≤ n → Ends (λ y. Skipped found bytes y.0 y.1) (SkipFails bytes) (customs_at n found bytes)
 unfolding customs_at
-customs-found zero found bytes after rest e =
-    subst (λ (q : Found × List ℕ). Passed found bytes q.0 q.1) (ok_is (found, bytes) (after, rest) e) (nothing_passed found bytes)
-customs-found (suc n) found bytes after rest e = by (customs-found n) (behind_id 0 bytes) refl e where
-  by : ((found : Found) (bytes : List ℕ) (after : Found) (rest : List ℕ) → customs_at n found bytes ≡ Ok (after, rest) → Passed found bytes after rest) → (o : Option (List ℕ)) → behind_id 0 bytes ≡ o → choice {B = Result (Found × List ℕ) Fault} o (Ok (found, bytes)) (λ contents. filled_at custom_at contents >>= λ c. customs_at n (with_custom c.0 found) c.1) ≡ Ok (after, rest) → Passed found bytes after rest
-  by so None is e = subst (λ (q : Found × List ℕ). Passed found bytes q.0 q.1) (ok_is (found, bytes) (after, rest) e) (nothing_passed found bytes)
-  by so (Some contents) is e =
-      let a = bind_ok (filled_at custom_at contents) (λ c. customs_at n (with_custom c.0 found) c.1) (after, rest) e in
-      let c : Custom = a.0.0 in
-      let t = custom-spells.found contents c a.0.1 a.1 in
-      let p = so (with_custom c found) a.0.1 after rest a.2 in
-      let raw : Raw = record { id = 0; contents = t.spelled.0 } in
-      let section : Section raw (0 ∷ t.front) = record { front = 0 ∷ []; back = t.front; whole = refl; first = refl; second = t.spelled.1 } in
-      record {
-        raws = raw ∷ p.raws;
-        customs = c ∷ p.customs;
-        front = 0 ∷ (t.front ++ p.front);
-        whole = behind-found 0 bytes contents is ∙ ap (λ (l : List ℕ). 0 ∷ l) (t.whole ∙ ap (λ (l : List ℕ). t.front ++ l) p.whole ∙ sym (append_assoc t.front p.front rest));
-        each = record { front = 0 ∷ t.front; back = p.front; whole = refl; first = section; second = p.each };
-        order = λ b more h. inl (refl, p.order b more h);
-        others = λ j some more. above 0 j some t.spelled.0 (p.raws ++ more) ∙ p.others j some more;
-        are = λ more cs h. inl (refl, t.spelled.2, p.are more cs h);
-        all = λ cs. p.all cs ∙ total-with found c (p.customs ++ cs);
-      }
+customs-end zero found [] le = stay found [] (λ b more w. absurd cc)
+customs-end zero found (b ∷ bytes) le = absurd (omega arith)
+customs-end (suc n) found bytes le = by (customs-end n) (behind_id 0 bytes) refl where
+  by : ((found : Found) (bytes : List ℕ) → length bytes ≤ n → Ends (λ y. Skipped found bytes y.0 y.1) (SkipFails bytes) (customs_at n found bytes)) → (o : Option (List ℕ)) → behind_id 0 bytes ≡ o
+      → Ends (λ (y : Found × List ℕ). Skipped found bytes y.0 y.1) (SkipFails bytes) (choice o (Ok (found, bytes)) (λ contents. filled_at custom_at contents >>= λ c. customs_at n (with_custom c.0 found) c.1))
+  by so None is = stay found bytes (λ b more w z. none-first 0 b bytes more is w z)
+  by so (Some contents) is =
+      let first = behind-found 0 bytes contents is in
+      step (λ (y : Custom × List ℕ). Taken (λ x. Sized (Custom_contents x)) contents y.0 y.1) (λ x. NoneSized Custom_contents NoName x.rule x.left contents × (x.left ≤ length contents)) _ _ (filled_at custom_at contents) _
+      (by_ends _ _ (filled_at custom_at contents) (λ y e. custom-spells.found contents y.0 y.1 e) (λ x e. (custom-breaks.fails contents x e, custom-breaks.within contents x e)))
+      (λ x h. record { back = contents; piece = record { raws = []; customs = []; front = []; whole = first; each = refl; hold = tt; are = refl }; custom = tt; fails = h.0; within = h.1 })
+      (λ y t.
+      let one : Piece bytes y.1 = single Custom_contents 0 bytes contents y.0 y.1 first t (inl (refl, (y.0, t.spelled.2))) (y.0 ∷ []) (inl (refl, t.spelled.2, refl)) in
+      weaker _ _ _ _ (customs_at n (with_custom y.0 found) y.1) (so (with_custom y.0 found) y.1 (omega (arith, ap length first, ap length t.whole, length-append t.front y.1)))
+      (λ z s. record { piece = joined one s.piece; custom = (refl, s.custom); all = λ cs. s.all cs ∙ total-with found y.0 (s.piece.customs ++ cs); stops = s.stops; same = inr (contents, first) })
+      (λ x s. record { back = s.back; piece = joined one s.piece; custom = (refl, s.custom); fails = s.fails; within = s.within }))
 
--- a section that may be there
-pub record Stage {A : Type 0} (P : A → List ℕ → Type 0) (id : ℕ) (found : Found) (bytes : List ℕ) (xs : List A) (after : Found) (rest : List ℕ) : Type 0 where
-  pub raws : List Raw
-  pub customs : List Custom
-  pub front : List ℕ
-  pub whole : bytes ≡ front ++ rest
-  pub each : Each Section raws front
-  pub order : (b : ℕ) (more : List Raw) → b < id → ((b : ℕ) → b ≤ id → InOrder b more) → InOrder b (raws ++ more)
-  pub lists : (more : List Raw) → ((b : ℕ) → b ≤ id → InOrder b more) → Lists P id (raws ++ more) xs
-  pub others : (j : ℕ) → id < j → (more : List Raw) → contents_of j (raws ++ more) ≡ contents_of j more
-  pub are : (more : List Raw) (cs : List Custom) → CustomsAre more cs → CustomsAre (raws ++ more) (customs ++ cs)
-  pub all : (cs : List Custom) → total after cs ≡ total found (customs ++ cs)
+-- ---- the sections up to an id
 
-pub lists-along : {A : Type 0} (P : A → List ℕ → Type 0) (id : ℕ) (raws more : List Raw) (xs : List A) → contents_of id raws ≡ contents_of id more → Lists P id more xs → Lists P id raws xs
-lists-along P id raws more xs e h = subst (λ (o : Option (List ℕ)). MatchOption o (xs ≡ []) (Vector P xs)) (sym e) h
+pub record Upto (id : ℕ) (start : List ℕ) (found : Found) (rest : List ℕ) : Type 0 where
+  pub piece : Piece start rest
+  pub order : InOrder 0 piece.raws
+  pub low : last_id 0 piece.raws ≤ id
+  pub others : (j : ℕ) → id < j → contents_of j piece.raws ≡ None
+  pub all : (cs : List Custom) → total found cs ≡ total begin (piece.customs ++ cs)
+  pub next : (last_id 0 piece.raws ≡ id) ⊎ ((b : ℕ) (more : List ℕ) → rest ≡ b ∷ more → MayFollow (last_id 0 piece.raws) b → id < b)
 
-lists-by : {A : Type 0} (P : A → List ℕ → Type 0) (id : ℕ) (raws : List Raw) (xs : List A) (o : Option (List ℕ)) → contents_of id raws ≡ o → MatchOption o (xs ≡ []) (Vector P xs) → Lists P id raws xs
-lists-by P id raws xs o e h = subst (λ (o : Option (List ℕ)). MatchOption o (xs ≡ []) (Vector P xs)) (sym e) h
+-- behind some sections, the next one fails
+pub record Stopped (start : List ℕ) (x : Fault) : Type 0 where
+  pub back : List ℕ
+  pub piece : Piece start back
+  pub order : InOrder 0 piece.raws
+  pub next : NoSection (last_id 0 piece.raws) x.rule x.left back
+  pub within : x.left ≤ length back
 
-pub section-found : {A : Type 0} (P : A → List ℕ → Type 0) (f : Reader A) (id : ℕ) → Spells P f → 0 < id → Contains ids id → (found : Found) (bytes : List ℕ) (xs : List A) (after : Found) (rest : List ℕ)
-    → section_at f id found bytes ≡ Ok ((xs, after), rest) → Stage P id found bytes xs after rest
-unfolding section_at
-section-found {A} P f id sf some known found bytes xs after rest e =
-    let a = bind_ok (customs_at (length bytes) found bytes) (λ c. listed_at f id c.0 c.1) ((xs, after), rest) e in
-    by a.0.0 a.0.1 (customs-found (length bytes) found bytes a.0.0 a.0.1 a.1) (behind_id id a.0.1) refl a.2 where
-      by : (g : Found) (middle : List ℕ) → Passed found bytes g middle → (o : Option (List ℕ)) → behind_id id middle ≡ o
-          → choice {B = Result ((List A × Found) × List ℕ) Fault} o (Ok (([], g), middle)) (λ contents. filled_at (vector_at f) contents >>= λ x. Ok ((x.0, g), x.1)) ≡ Ok ((xs, after), rest) → Stage P id found bytes xs after rest
-      by g middle p None is e =
-          subst (λ (q : (List A × Found) × List ℕ). Stage P id found bytes q.0.0 q.0.1 q.1) (ok_is (([], g), middle) ((xs, after), rest) e)
-          (record {
-            raws = p.raws;
-            customs = p.customs;
-            front = p.front;
-            whole = p.whole;
-            each = p.each;
-            order = λ b more lt h. p.order b more (h b (omega arith));
-            lists = λ more h. lists-by P id (p.raws ++ more) [] None (p.others id some more ∙ none_below id id more (h id (omega arith)) some (omega arith)) refl;
-            others = λ j lt more. p.others j (omega arith) more;
-            are = p.are;
-            all = p.all;
-          })
-      by g middle p (Some contents) is e =
-          let b = bind_ok (filled_at (vector_at f) contents) (λ x. Ok ((x.0, g), x.1)) ((xs, after), rest) e in
-          let t = (filled-spells (Vector P) (vector_at f) index-spells (fills (Vector P) (vector_at f) (vector-spells P f index-spells sf))).found contents b.0.0 b.0.1 b.1 in
-          let raw : Raw = record { id = id; contents = t.spelled.0 } in
-          let section : Section raw (id ∷ t.front) = record { front = id ∷ []; back = t.front; whole = refl; first = refl; second = t.spelled.1 } in
-          let single : Each Section (raw ∷ []) (id ∷ t.front) = record { front = id ∷ t.front; back = []; whole = sym (append-nil (id ∷ t.front)); first = section; second = refl } in
-          subst (λ (q : (List A × Found) × List ℕ). Stage P id found bytes q.0.0 q.0.1 q.1) (ok_is ((b.0.0, g), b.0.1) ((xs, after), rest) b.2)
-          (record {
-            raws = p.raws ++ raw ∷ [];
-            customs = p.customs;
-            front = p.front ++ id ∷ t.front;
-            whole = p.whole ∙ ap (λ (l : List ℕ). p.front ++ l) (behind-found id middle contents is ∙ ap (λ (l : List ℕ). id ∷ l) t.whole) ∙ sym (append_assoc p.front (id ∷ t.front) b.0.1);
-            each = each-append Section p.raws (raw ∷ []) p.front (id ∷ t.front) p.each single;
-            order = λ b more lt h. subst (InOrder b) (sym (append_assoc p.raws (raw ∷ []) more)) (p.order b (raw ∷ more) (inr (lt, known, h id (omega arith))));
-            lists = λ more h. lists-by P id ((p.raws ++ raw ∷ []) ++ more) b.0.0 (Some t.spelled.0) (ap (contents_of id) (append_assoc p.raws (raw ∷ []) more) ∙ p.others id some (raw ∷ more) ∙ here id t.spelled.0 more) t.spelled.2;
-            others = λ j lt more. ap (contents_of j) (append_assoc p.raws (raw ∷ []) more) ∙ p.others j (omega arith) (raw ∷ more) ∙ above id j lt t.spelled.0 more;
-            are = λ more cs h. subst (λ (l : List Raw). CustomsAre l (p.customs ++ cs)) (sym (append_assoc p.raws (raw ∷ []) more)) (p.are (raw ∷ more) cs (skips raw more cs some h));
-            all = p.all;
-          })
+-- the sections up to an id again, behind custom ones
+pub record Past (id : ℕ) (start : List ℕ) (raws : List Raw) (found : Found) (rest : List ℕ) : Type 0 where
+  pub upto : Upto id start found rest
+  pub kept : (j : ℕ) → 0 < j → contents_of j upto.piece.raws ≡ contents_of j raws
+  pub next : (b : ℕ) (more : List ℕ) → rest ≡ b ∷ more → MayFollow (last_id 0 upto.piece.raws) b → id < b
 
--- ---- what is read again
+-- the custom sections found along two pieces
+total-past : (found after mid : Found) (cs ds es : List Custom) → total after es ≡ total mid (ds ++ es) → total mid (ds ++ es) ≡ total found (cs ++ (ds ++ es)) → total after es ≡ total found ((cs ++ ds) ++ es)
+total-past found after mid cs ds es p q = p ∙ q ∙ ap (total found) (sym (append_assoc cs ds es))
 
--- the next section, if there is one, isn't a custom one
-abbrev Stops : List Raw → Type 0
-Stops [] = Unit {0}
-Stops (raw ∷ raws) = 0 < raw.id
-
-pub record Reached (found : Found) (b : ℕ) (raws : List Raw) (customs : List Custom) (read : Result (Found × List ℕ) Fault) : Type 0 where
-  pub after : Found
-  pub more : List Raw
-  pub bytes : List ℕ
-  pub cs : List Custom
-  pub reads : read ≡ Ok (after, bytes)
-  pub each : Each Section more bytes
-  pub order : InOrder b more
-  pub are : CustomsAre more cs
-  pub all : total after cs ≡ total found customs
-  pub others : (j : ℕ) → 0 < j → contents_of j more ≡ contents_of j raws
-  pub stops : Stops more
-
-stop-at : (n : ℕ) (found : Found) (bytes : List ℕ) → behind_id 0 bytes ≡ None → customs_at n found bytes ≡ Ok (found, bytes)
-unfolding customs_at
-stop-at zero found bytes e = refl
-stop-at (suc n) found bytes e = rw e refl
-
-go-at : (n : ℕ) (found : Found) (contents : List ℕ) (c : Custom) (rest : List ℕ) → filled_at custom_at contents ≡ Ok (c, rest) → customs_at (suc n) found (0 ∷ contents) ≡ customs_at n (with_custom c found) rest
-unfolding customs_at
-go-at n found contents c rest e = rw (behind-here 0 contents, e) refl
-
-apart_from : (a b : ℕ) → b < a → a ≡ b → ⊥
-apart_from a b lt e = absurd (omega arith)
-
-pub customs-again : (n : ℕ) (found : Found) (b : ℕ) (raws : List Raw) (customs : List Custom) (bytes : List ℕ) → length bytes ≤ n → Each Section raws bytes → InOrder b raws → CustomsAre raws customs
-    → Reached found b raws customs (customs_at n found bytes)
-customs-again n found b [] customs bytes le each order are =
+-- custom sections behind those up to an id leave what these list
+pub past : (id : ℕ) (start bytes rest : List ℕ) (found after : Found) (u : Upto id start found bytes) → Skipped found bytes after rest → Past id start u.piece.raws after rest
+past id start bytes rest found after u s =
+    let last : last_id 0 (u.piece.raws ++ s.piece.raws) ≡ last_id 0 u.piece.raws = last_id-append 0 u.piece.raws s.piece.raws ∙ custom-last s.piece.raws (last_id 0 u.piece.raws) s.custom in
     record {
-      after = found;
-      more = [];
-      bytes = [];
-      cs = customs;
-      reads = ap (customs_at n found) each ∙ stop-at n found [] (behind-none 0);
-      each = refl;
-      order = order;
-      are = are;
-      all = refl;
-      others = λ j some. refl;
-      stops = tt;
-    }
-customs-again n found b (raw ∷ raws) customs bytes le each (inr order) are =
-    let s = section_is raw each.front each.first in
-    let bytes-are : bytes ≡ raw.id ∷ (s.0 ++ each.back) = each.whole ∙ ap (λ (l : List ℕ). l ++ each.back) s.1 in
-    let none : behind_id 0 bytes ≡ None = ap (behind_id 0) bytes-are ∙ behind-other 0 raw.id (s.0 ++ each.back) (apart_from raw.id 0 (omega (arith, order.0))) in
-    record { after = found; more = raw ∷ raws; bytes = bytes; cs = customs; reads = stop-at n found bytes none; each = each; order = inr order; are = are; all = refl; others = λ j some. refl; stops = omega (arith, order.0) }
-customs-again n found b (raw ∷ raws) [] bytes le each (inl order) are = absurd (omega (arith, order.0, are.0))
-customs-again n found b (raw ∷ raws) (c ∷ customs) bytes le each (inl order) (inr are) = absurd (omega (arith, order.0, are.0))
-customs-again zero found b (raw ∷ raws) (c ∷ customs) bytes le each (inl order) (inl are) =
-    let s = section_is raw each.front each.first in
-    let bytes-are : bytes ≡ raw.id ∷ (s.0 ++ each.back) = each.whole ∙ ap (λ (l : List ℕ). l ++ each.back) s.1 in
-    absurd (omega (arith, ap length bytes-are))
-customs-again (suc n) found b (raw ∷ raws) (c ∷ customs) bytes le each (inl order) (inl are) =
-    let s = section_is raw each.front each.first in
-    let bytes-are : bytes ≡ raw.id ∷ (s.0 ++ each.back) = each.whole ∙ ap (λ (l : List ℕ). l ++ each.back) s.1 in
-    let read : filled_at custom_at (s.0 ++ each.back) ≡ Ok (c, each.back) = custom-spells.again c s.0 each.back (raw.contents, s.2, are.1) in
-    let step : customs_at (suc n) found bytes ≡ customs_at n (with_custom c found) each.back =
-    ap (customs_at (suc n) found) (bytes-are ∙ ap (λ (x : ℕ). x ∷ (s.0 ++ each.back)) order.0) ∙ go-at n found (s.0 ++ each.back) c each.back read in
-    let shorter : length each.back ≤ n = omega (arith, ap length bytes-are, length-append s.0 each.back) in
-    let r = customs-again n (with_custom c found) b raws customs each.back shorter each.second order.1 are.2 in
-    record {
-      after = r.after;
-      more = r.more;
-      bytes = r.bytes;
-      cs = r.cs;
-      reads = step ∙ r.reads;
-      each = r.each;
-      order = r.order;
-      are = r.are;
-      all = r.all ∙ total-with found c customs;
-      others = λ j some. r.others j some ∙ sym (skipped j some raw raws order.0);
-      stops = r.stops;
+      upto = record {
+        piece = joined u.piece s.piece;
+        order = InOrder-append 0 u.piece.raws s.piece.raws u.order (custom-order s.piece.raws (last_id 0 u.piece.raws) s.custom);
+        low = omega (arith, u.low, last);
+        others = λ j lt. contents-behind j u.piece.raws s.piece.raws (u.others j lt) ∙ custom-others s.piece.raws j (omega arith) s.custom;
+        all = λ cs. total-past begin after found u.piece.customs s.piece.customs cs (s.all cs) (u.all (s.piece.customs ++ cs));
+        next = inr (next last);
+      };
+      kept = λ j some. contents-before j u.piece.raws s.piece.raws (custom-others s.piece.raws j some s.custom);
+      next = next last;
     } where
-      skipped : (j : ℕ) → 0 < j → (raw : Raw) (raws : List Raw) → raw.id ≡ 0 → contents_of j (raw ∷ raws) ≡ contents_of j raws
-      skipped j some raw raws e = rw (ne_eqb raw.id j (λ (is : raw.id ≡ j). absurd (omega arith))) refl
+      behind : (b : ℕ) (more : List ℕ) → rest ≡ b ∷ more → MayFollow (last_id 0 u.piece.raws) b → id < b
+      behind b more w (inl z) = absurd (s.stops b more w z)
+      behind b more w (inr h) =
+          elim u.next [
+            | inl is ↦ omega (arith, is, h.0)
+            | inr below ↦
+                elim s.same [
+                  | inl e ↦ below b more (sym e ∙ w) (inr h)
+                  | inr z ↦ absurd (omega (arith, below 0 z.0 z.1 (inl refl)))
+                ]
+          ]
 
-both : (p : ℕ → Bool) (y : ℕ) (ys : List ℕ) → list_all p (y ∷ ys) ≡ true → (p y ≡ true) × (list_all p ys ≡ true)
-both p y ys e = parts (p y) (list_all p ys) e where
-  parts : (a b : Bool) → (a && b) ≡ true → (a ≡ true) × (b ≡ true)
-  parts true b e = (refl, e)
-  parts false b e = absurd cc
+      next : last_id 0 (u.piece.raws ++ s.piece.raws) ≡ last_id 0 u.piece.raws → (b : ℕ) (more : List ℕ) → rest ≡ b ∷ more → MayFollow (last_id 0 (u.piece.raws ++ s.piece.raws)) b → id < b
+      next last b more w h = behind b more w (subst (λ (l : ℕ). MayFollow l b) last h)
 
-or_true : (a b : Bool) → (a || b) ≡ true → (a ≡ true) ⊎ (b ≡ true)
-or_true true b e = inl refl
-or_true false b e = inr e
+-- what a stage of reading is: what spells an element and what fails of one, and the ids before it and of its own
+pub record Stage {A : Type 0} (P : A → List ℕ → Type 0) (F : ModuleRule → ℕ → List ℕ → Type 0) (f : Reader A) (before id : ℕ) : Type 1 where
+  pub reads : Reads P F f
+  pub lt : before < id
+  pub next : AreNext before id
+  pub known : Contains ids id
+  pub kind : (Q : (A : Type 0) → (A → List ℕ → Type 0) → (ModuleRule → ℕ → List ℕ → Type 0) → Type 0) → Q (List A) (Vector P) (NoVector P F) → OfKind Q id
 
-same_or : (b : Bool) {c : Bool} → b ≡ c → (c ≡ true) ⊎ (c ≡ false)
-same_or true e = inl (sym e)
-same_or false e = inr (sym e)
+-- a stage is done: its section is read, if it is there, and what those before it list stays
+pub record Done {A : Type 0} (P : A → List ℕ → Type 0) (before id : ℕ) (start : List ℕ) (raws : List Raw) (xs : List A) (after : Found) (rest : List ℕ) : Type 0 where
+  pub upto : Upto id start after rest
+  pub kept : (j : ℕ) → 0 < j → j ≤ before → contents_of j upto.piece.raws ≡ contents_of j raws
+  pub lists : Lists P id upto.piece.raws xs
 
-above_it : (a b : ℕ) → a ≤ b → (b ≡ a → ⊥) → a < b
-above_it a b le other = omega arith
+-- a section that is no custom one is the last
+last-single : (b : ℕ) (raw : Raw) → 0 < raw.id → last_id b (raw ∷ []) ≡ raw.id
+last-single b raw some = rw (ne_eqb raw.id 0 (λ (e : raw.id ≡ 0). absurd (omega arith))) refl
 
-abbrev pair_of : {A : Type 0} → List A → Found → List ℕ → Result ((List A × Found) × List ℕ) Fault
-pair_of l found bytes = Ok ((l, found), bytes)
-
-unskipped : (raw : Raw) (raws : List Raw) (customs : List Custom) → 0 < raw.id → CustomsAre (raw ∷ raws) customs → CustomsAre raws customs
-unskipped raw raws [] some h = h.1
-unskipped raw raws (c ∷ customs) some (inl h) = absurd (omega (arith, h.0))
-unskipped raw raws (c ∷ customs) some (inr h) = h.1
-
--- the ids of a list, by a test of each
-pub tested : (p : ℕ → Bool) (xs : List ℕ) (k x : ℕ) → list_all p xs ≡ true → k < length xs → get_or xs k x ≡ x → p x ≡ true
-tested p [] k x e lt is = absurd (omega arith)
-tested p (y ∷ ys) zero x e lt is = subst (λ (z : ℕ). p z ≡ true) is (both p y ys e).0
-tested p (y ∷ ys) (suc k) x e lt is = tested p ys k x (both p y ys e).1 (omega arith) is
-
--- no id of the subset lies between these
-abbrev pub AreNext : ℕ → ℕ → Type 0
-AreNext b id = list_all (λ y. leb y b || leb id y) ids ≡ true
-
-pub next_id : (b id x : ℕ) → AreNext b id → Contains ids x → b < x → id ≤ x
-next_id b id x e c lt =
-    elim (or_true (leb x b) (leb id x) (tested (λ y. leb y b || leb id y) ids c.0 x e c.1 c.2)) [
-      | inl h ↦ absurd (omega (arith, leb-true x b h))
-      | inr h ↦ leb-true id x h
-    ]
-
-pub record Read {A : Type 0} (id : ℕ) (found : Found) (raws : List Raw) (customs : List Custom) (xs : List A) (read : Result ((List A × Found) × List ℕ) Fault) : Type 0 where
-  pub after : Found
-  pub more : List Raw
-  pub bytes : List ℕ
-  pub cs : List Custom
-  pub reads : read ≡ Ok ((xs, after), bytes)
-  pub each : Each Section more bytes
-  pub order : InOrder id more
-  pub are : CustomsAre more cs
-  pub all : total after cs ≡ total found customs
-  pub others : (j : ℕ) → id < j → contents_of j more ≡ contents_of j raws
-
-listed-none : {A : Type 0} (f : Reader A) (id : ℕ) (found : Found) (bytes : List ℕ) → behind_id id bytes ≡ None → listed_at f id found bytes ≡ Ok (([], found), bytes)
-listed-none f id found bytes e = rw e refl
-
-listed-some : {A : Type 0} (f : Reader A) (id : ℕ) (found : Found) (bytes contents : List ℕ) (xs : List A) (rest : List ℕ) → behind_id id bytes ≡ Some contents → filled_at (vector_at f) contents ≡ Ok (xs, rest)
-    → listed_at f id found bytes ≡ Ok ((xs, found), rest)
-listed-some f id found bytes contents xs rest e h = rw (e, h) refl
-
-lists-none : {A : Type 0} (P : A → List ℕ → Type 0) (id : ℕ) (raws : List Raw) (xs : List A) → contents_of id raws ≡ None → Lists P id raws xs → xs ≡ []
-lists-none P id raws xs e h = subst (λ (o : Option (List ℕ)). MatchOption o (xs ≡ []) (Vector P xs)) e h
-
-lists-some : {A : Type 0} (P : A → List ℕ → Type 0) (id : ℕ) (raws : List Raw) (xs : List A) (contents : List ℕ) → contents_of id raws ≡ Some contents → Lists P id raws xs → Vector P xs contents
-lists-some P id raws xs contents e h = subst (λ (o : Option (List ℕ)). MatchOption o (xs ≡ []) (Vector P xs)) e h
-
-passed_over : (j : ℕ) (raw : Raw) (raws : List Raw) → (raw.id ≡ j → ⊥) → contents_of j (raw ∷ raws) ≡ contents_of j raws
-passed_over j raw raws e = rw (ne_eqb raw.id j e) refl
-
-found_here : (j : ℕ) (raw : Raw) (raws : List Raw) → raw.id ≡ j → contents_of j (raw ∷ raws) ≡ Some raw.contents
-found_here j raw raws e = rw (eq-eqb raw.id j e) refl
-
-listed-again : {A : Type 0} (P : A → List ℕ → Type 0) (f : Reader A) (b id : ℕ) → Spells P f → 0 < id → b < id → AreNext b id → (found : Found) (raws : List Raw) (customs : List Custom) (bytes : List ℕ) (xs : List A)
-    → Each Section raws bytes → InOrder b raws → CustomsAre raws customs → Stops raws → Lists P id raws xs → Read id found raws customs xs (listed_at f id found bytes)
-listed-again {A} P f b id sf some lt next found [] customs bytes xs each order are stops lists =
-    let none : xs ≡ [] = lists in
+-- the section isn't there
+absent : {A : Type 0} (P : A → List ℕ → Type 0) (F : ModuleRule → ℕ → List ℕ → Type 0) (f : Reader A) (before id : ℕ) → Stage P F f before id → (start : List ℕ) (raws : List Raw) (found : Found) (rest : List ℕ) → Past before start raws found rest → behind_id id rest ≡ None
+    → Done P before id start raws [] found rest
+absent P F f before id s start raws found rest o is =
+    let u = o.upto in
     record {
-      after = found;
-      more = [];
-      bytes = bytes;
-      cs = customs;
-      reads = listed-none f id found bytes (ap (behind_id id) each ∙ behind-none id) ∙ ap (λ (l : List A). pair_of l found bytes) (sym none);
-      each = each;
-      order = tt;
-      are = are;
-      all = refl;
-      others = λ j some. refl;
-    }
-listed-again P f b id sf some lt next found (raw ∷ raws) customs bytes xs each (inl order) are stops lists = absurd (omega (arith, order.0))
-listed-again {A} P f b id sf some lt next found (raw ∷ raws) customs bytes xs each (inr order) are stops lists =
-    let s = section_is raw each.front each.first in
-    let bytes-are : bytes ≡ raw.id ∷ (s.0 ++ each.back) = each.whole ∙ ap (λ (l : List ℕ). l ++ each.back) s.1 in
-    let le : id ≤ raw.id = next_id b id raw.id next order.1 order.0 in
-    elim (same_or (eqb raw.id id) refl) [
-      | inl e ↦
-          let is : raw.id ≡ id = eqb-true raw.id id e in
-          let vector = lists-some P id (raw ∷ raws) xs raw.contents (found_here id raw raws is) lists in
-          let read = (filled-spells (Vector P) (vector_at f) index-spells (fills (Vector P) (vector_at f) (vector-spells P f index-spells sf))).again xs s.0 each.back (raw.contents, s.2, vector) in
-          let is_behind : behind_id id bytes ≡ Some (s.0 ++ each.back) = ap (behind_id id) (bytes-are ∙ ap (λ (x : ℕ). x ∷ (s.0 ++ each.back)) is) ∙ behind-here id (s.0 ++ each.back) in
-          record {
-            after = found;
-            more = raws;
-            bytes = each.back;
-            cs = customs;
-            reads = listed-some f id found bytes (s.0 ++ each.back) xs each.back is_behind read;
-            each = each.second;
-            order = subst (λ (x : ℕ). InOrder x raws) is order.2;
-            are = unskipped raw raws customs stops are;
-            all = refl;
-            others = λ j more. sym (passed_over j raw raws (λ (q : raw.id ≡ j). absurd (omega arith)));
-          }
-      | inr e ↦
-          let other : raw.id ≡ id → ⊥ = eqb-false raw.id id e in
-          let less : id < raw.id = above_it id raw.id le other in
-          let none : xs ≡ [] = lists-none P id (raw ∷ raws) xs (none_below id id (raw ∷ raws) (inr (less, order.1, order.2)) some (omega arith)) lists in
-          let is_behind : behind_id id bytes ≡ None = ap (behind_id id) bytes-are ∙ behind-other id raw.id (s.0 ++ each.back) other in
-          record {
-            after = found;
-            more = raw ∷ raws;
-            bytes = bytes;
-            cs = customs;
-            reads = listed-none f id found bytes is_behind ∙ ap (λ (l : List A). pair_of l found bytes) (sym none);
-            each = each;
-            order = inr (less, order.1, order.2);
-            are = are;
-            all = refl;
-            others = λ j more. refl;
-          }
-    ]
+      upto = record {
+        piece = u.piece;
+        order = u.order;
+        low = omega (arith, u.low, s.lt);
+        others = λ j lt. u.others j (omega (arith, s.lt));
+        all = u.all;
+        next = inr beyond;
+      };
+      kept = λ j some le. o.kept j some;
+      lists = lists-by P id u.piece.raws [] None (u.others id s.lt) refl;
+    } where
+      beyond : (b : ℕ) (more : List ℕ) → rest ≡ b ∷ more → MayFollow (last_id 0 o.upto.piece.raws) b → id < b
+      beyond b more w (inl z) = absurd (omega (arith, o.next b more w (inl z)))
+      beyond b more w (inr h) =
+          let le : id ≤ b = next_id before id b s.next h.1 (o.next b more w (inr h)) in
+          let other : b ≡ id → ⊥ = none-first id b rest more is w in
+          omega arith
 
-pub section-again : {A : Type 0} (P : A → List ℕ → Type 0) (f : Reader A) (b id : ℕ) → Spells P f → 0 < id → b < id → AreNext b id → (found : Found) (raws : List Raw) (customs : List Custom) (bytes : List ℕ) (xs : List A)
-    → Each Section raws bytes → InOrder b raws → CustomsAre raws customs → Lists P id raws xs → Read id found raws customs xs (section_at f id found bytes)
+-- the section is there, and its contents were taken
+present : {A : Type 0} (P : A → List ℕ → Type 0) (F : ModuleRule → ℕ → List ℕ → Type 0) (f : Reader A) (before id : ℕ) → Stage P F f before id → (start : List ℕ) (raws : List Raw) (found : Found) (mid contents : List ℕ) (xs : List A) (rest : List ℕ) → Past before start raws found mid → mid ≡ id ∷ contents
+    → Taken (λ x. Sized (Vector P x)) contents xs rest → Done P before id start raws xs found rest
+present {A} P F f before id s start raws found mid contents xs rest o is t =
+    let u = o.upto in
+    let some : 0 < id = omega (arith, s.lt) in
+    let raw : Raw = record { id = id; contents = t.spelled.0 } in
+    let one : Piece mid rest = single (Vector P) id mid contents xs rest is t (s.kind (λ A P F. (x : A) × P x t.spelled.0) (xs, t.spelled.2)) [] (some, refl) in
+    let last : last_id 0 (u.piece.raws ++ raw ∷ []) ≡ id = last_id-append 0 u.piece.raws (raw ∷ []) ∙ last-single (last_id 0 u.piece.raws) raw some in
+    let away : (j : ℕ) → (id ≡ j → ⊥) → contents_of j (raw ∷ []) ≡ None = λ j e. passed_over j raw [] e in
+    record {
+      upto = record {
+        piece = joined u.piece one;
+        order = InOrder-append 0 u.piece.raws (raw ∷ []) u.order (inr (omega (arith, u.low, s.lt), s.known, tt));
+        low = omega (arith, last);
+        others = λ j lt. contents-behind j u.piece.raws (raw ∷ []) (u.others j (omega (arith, s.lt))) ∙ away j (λ (e : id ≡ j). absurd (omega arith));
+        all = λ cs. u.all cs ∙ ap (λ (l : List Custom). total begin (l ++ cs)) (sym (append-nil u.piece.customs));
+        next = inl last;
+      };
+      kept = λ j some le. contents-before j u.piece.raws (raw ∷ []) (away j (λ (e : id ≡ j). absurd (omega (arith, s.lt)))) ∙ o.kept j some;
+      lists = lists-by P id (u.piece.raws ++ raw ∷ []) xs (Some t.spelled.0) (contents-behind id u.piece.raws (raw ∷ []) (u.others id s.lt) ∙ found_here id raw [] refl) t.spelled.2;
+    }
+
+-- a custom section fails behind those up to an id
+pub skip-stopped : (id : ℕ) (start bytes : List ℕ) (found : Found) (x : Fault) → Upto id start found bytes → SkipFails bytes x → Stopped start x
+skip-stopped id start bytes found x u s = record {
+  back = 0 ∷ s.back;
+  piece = joined u.piece s.piece;
+  order = InOrder-append 0 u.piece.raws s.piece.raws u.order (custom-order s.piece.raws (last_id 0 u.piece.raws) s.custom);
+  next = inr (inl refl, inl (refl, s.fails));
+  within = omega (arith, s.within);
+}
+
+-- a stage is done, or a section fails
+pub section-ends : {A : Type 0} (P : A → List ℕ → Type 0) (F : ModuleRule → ℕ → List ℕ → Type 0) (f : Reader A) (before id : ℕ) → Stage P F f before id → (start : List ℕ) (found : Found) (bytes : List ℕ) (u : Upto before start found bytes)
+    → Ends (λ y. Done P before id start u.piece.raws y.0.0 y.0.1 y.1) (Stopped start) (section_at f id found bytes)
 unfolding section_at
-section-again {A} P f b id sf some lt next found raws customs bytes xs each order are lists =
-    let r = customs-again (length bytes) found b raws customs bytes (omega arith) each order are in
-    let t = listed-again P f b id sf some lt next r.after r.more r.cs r.bytes xs r.each r.order r.are r.stops (lists-along P id r.more raws xs (r.others id some) lists) in
-    record {
-      after = t.after;
-      more = t.more;
-      bytes = t.bytes;
-      cs = t.cs;
-      reads = ap (λ (q : Result (Found × List ℕ) Fault). q >>= λ c. listed_at f id c.0 c.1) r.reads ∙ t.reads;
-      each = t.each;
-      order = t.order;
-      are = t.are;
-      all = t.all ∙ r.all;
-      others = λ j more. t.others j more ∙ r.others j (omega arith);
-    }
+section-ends {A} P F f before id s start found bytes u =
+    step _ _ _ _ (customs_at (length bytes) found bytes) _ (customs-end (length bytes) found bytes (omega arith)) (λ x h. skip-stopped before start bytes found x u h)
+    (λ y k. by y.0 y.1 (past before start bytes y.1 found y.0 u k) (behind_id id y.1) refl) where
+      rv : Reads (Vector P) (NoVector P F) (vector_at f)
+      rv = vector-reads P F f s.reads
 
--- after the last section only custom ones stand
-pub nothing_left : (raws : List Raw) (bytes : List ℕ) → Each Section raws bytes → InOrder 11 raws → Stops raws → (raws ≡ []) × (bytes ≡ [])
-nothing_left [] bytes each order stops = (refl, each)
-nothing_left (raw ∷ raws) bytes each (inl order) stops = absurd (omega (arith, order.0))
-nothing_left (raw ∷ raws) bytes each (inr order) stops =
-    let c = order.1 in
-    let small = tested (λ y. leb y 11) ids c.0 raw.id refl c.1 c.2 in
-    absurd (omega (arith, leb-true raw.id 11 small, order.0))
+      by : (g : Found) (mid : List ℕ) → Past before start u.piece.raws g mid → (o : Option (List ℕ)) → behind_id id mid ≡ o
+          → Ends (λ (y : (List A × Found) × List ℕ). Done P before id start u.piece.raws y.0.0 y.0.1 y.1) (Stopped start) (choice o (Ok (([], g), mid)) (λ contents. filled_at (vector_at f) contents >>= λ x. Ok ((x.0, g), x.1)))
+      by g mid o None is = absent P F f before id s start u.piece.raws g mid o is
+      by g mid o (Some contents) is =
+          let first = behind-found id mid contents is in
+          let sized = filled-breaks (Vector P) (NoVector P F) (vector_at f) (λ bytes x rest e. rv.spells.found bytes x rest e) rv.breaks in
+          step (λ (y : List A × List ℕ). Taken (λ x. Sized (Vector P x)) contents y.0 y.1) (λ x. NoneSized (Vector P) (NoVector P F) x.rule x.left contents × (x.left ≤ length contents)) _ _ (filled_at (vector_at f) contents) _
+          (by_ends _ _ (filled_at (vector_at f) contents) (λ y e. (filled-spells (Vector P) (vector_at f) index-spells (fills (Vector P) (vector_at f) rv.spells)).found contents y.0 y.1 e) (λ x e. (sized.fails contents x e, sized.within contents x e)))
+          (λ x h. record {
+            back = mid;
+            piece = o.upto.piece;
+            order = o.upto.order;
+            next = subst (NoSection (last_id 0 o.upto.piece.raws) x.rule x.left) (sym first) (inr (inr (omega (arith, o.upto.low, s.lt), s.known), s.kind (λ A P F. NoneSized P F x.rule x.left contents) h.0));
+            within = omega (arith, h.1, ap length first);
+          })
+          (λ y t. present P F f before id s start u.piece.raws g mid contents y.0 y.1 o first t)
+
+-- behind the last section and custom ones, an id is left that may not follow
+pub misplaced : (start bytes rest : List ℕ) (found after : Found) → Upto 11 start found bytes → Skipped found bytes after rest → (length rest ≡ 0 → ⊥) → Stopped start (at rule.Section (length rest))
+misplaced start bytes [] found after u s some = absurd (some refl)
+misplaced start bytes (b ∷ more) found after u s some =
+    let o = past 11 start bytes (b ∷ more) found after u s in
+    record { back = b ∷ more; piece = o.upto.piece; order = o.upto.order; next = inl (refl, refl, none o); within = omega arith } where
+      none : (o : Past 11 start u.piece.raws after (b ∷ more)) → MayFollow (last_id 0 o.upto.piece.raws) b → ⊥
+      none o (inl z) = s.stops b more refl z
+      none o (inr h) =
+          let small = tested (λ y. leb y 11) ids h.1.0 b refl h.1.1 h.1.2 in
+          absurd (omega (arith, leb-true b 11 small, o.next b more refl (inr h)))

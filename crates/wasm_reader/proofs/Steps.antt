@@ -1,12 +1,13 @@
 -- How reading goes on after a step, and how it ends.
-use Rattle.std.proofs.Common.{◌≡◌, ℕ, suc, Bool, true, false, length, Some, None, get_or, drop, drop-cons, length-drop, add-one, ◌-◌, ◌+◌, ◌≤◌, ◌<◌, List, [], ◌∷◌, ◌++◌, Result, Ok, Err, refl, sym, ap, ◌∙◌, append_assoc, arith}
+use Rattle.std.proofs.Common.{◌≡◌, ℕ, suc, Bool, false, eqb, length, Some, None, get_or, drop, drop-cons, length-drop, add-one, ◌-◌, ◌+◌, ◌≤◌, ◌<◌, List, [], ◌∷◌, ◌++◌, Result, Ok, Err, refl, sym, ap, ◌∙◌, append_assoc, arith}
 use Rattle.std.proofs.Math.Nat.{sub-zero}
+use Rattle.std.proofs.lemmas.Bool.{ne_eqb}
 use Rattle.std.proofs.lemmas.List.{append-nil, nil_from_length}
 use Rattle.wasm_reader.specs.declared.fault.Fault.{Fault}
 use Rattle.wasm_reader.specs.declared.fault.ReadFail.{ReadFail}
 use Rattle.wasm_reader.specs.declared.fault.ReadFail.TheVariants as fail
-use Rattle.std.specs.Prelude.{reverse}
 use Rattle.wasm_tree.specs.declared.instr.Instr.{Instr}
+use Rattle.wasm_tree.specs.Control.{at_begin}
 use Rattle.wasm_tree.specs.declared.module.LocalRun.{LocalRun}
 use Rattle.wasm_tree.specs.declared.module.Custom.{Custom}
 use Rattle.wasm_tree.specs.declared.failure.ModuleRule.TheVariants as rule
@@ -91,22 +92,26 @@ runs-begins count bytes = rw sub-zero (unread (runs_from count 0 bytes))
 
 -- ---- code
 
+pub some_open : (arms : List Bool) → (arms ≡ [] → ⊥) → eqb (length arms) 0 ≡ false
+some_open [] some = absurd (some refl)
+some_open (a ∷ arms) some = ne_eqb (length (a ∷ arms)) 0 (λ (e : length (a ∷ arms) ≡ 0). absurd (omega arith))
+
 pub code-goes_on : (front : List Instr) (count i : ℕ) (arms opened : List Bool) (bytes : List ℕ) (n : Instr) (after : List ℕ) (total : Result (List Instr × List ℕ) Fault) → i < count
-    → room_at arms bytes ≡ Ok tt → instruction_at bytes ≡ Ok (n, after) → follow_at (length bytes) arms n ≡ Ok (false, opened)
+    → room_at arms bytes ≡ Ok tt → instruction_at bytes ≡ Ok (n, after) → follow_at (length bytes) arms n ≡ Ok opened → (opened ≡ [] → ⊥)
     → with_front front (code_from (count - i) arms bytes) ≡ total → with_front (front ++ n ∷ []) (code_from (count - (i + 1)) opened after) ≡ total
 unfolding code_from
-code-goes_on front count i arms opened bytes n after total lt room h follows so_far =
+code-goes_on front count i arms opened bytes n after total lt room h follows some so_far =
     let k : count - i ≡ suc (count - (i + 1)) = omega arith in
-    let one : with_front front (code_from (count - i) arms bytes) ≡ with_front (front ++ n ∷ []) (code_from (count - (i + 1)) opened after) = rw (k, room, h, follows) (regroup front n (code_from (count - (i + 1)) opened after)) in
+    let one : with_front front (code_from (count - i) arms bytes) ≡ with_front (front ++ n ∷ []) (code_from (count - (i + 1)) opened after) = rw (k, room, h, follows, some_open opened some) (regroup front n (code_from (count - (i + 1)) opened after)) in
     sym one ∙ so_far
 
 pub code-ended : (front : List Instr) (count i : ℕ) (arms opened : List Bool) (bytes : List ℕ) (n : Instr) (after : List ℕ) (total : Result (List Instr × List ℕ) Fault) → i < count
-    → room_at arms bytes ≡ Ok tt → instruction_at bytes ≡ Ok (n, after) → follow_at (length bytes) arms n ≡ Ok (true, opened)
+    → room_at arms bytes ≡ Ok tt → instruction_at bytes ≡ Ok (n, after) → follow_at (length bytes) arms n ≡ Ok opened → opened ≡ []
     → with_front front (code_from (count - i) arms bytes) ≡ total → total ≡ Ok (front ++ n ∷ [], after)
 unfolding code_from
-code-ended front count i arms opened bytes n after total lt room h follows so_far =
+code-ended front count i arms opened bytes n after total lt room h follows none so_far =
     let k : count - i ≡ suc (count - (i + 1)) = omega arith in
-    let one : with_front front (code_from (count - i) arms bytes) ≡ Ok (front ++ n ∷ [], after) = rw (k, room, h, follows) refl in
+    let one : with_front front (code_from (count - i) arms bytes) ≡ Ok (front ++ n ∷ [], after) = rw (k, room, h, follows, none) refl in
     sym so_far ∙ one
 
 pub code-ends : (e : ReadFail) (front : List Instr) (count i : ℕ) (arms : List Bool) (bytes : List ℕ) (total : Result (List Instr × List ℕ) Fault) → i < count → room_at arms bytes ≡ Ok tt → Fails e (instruction_at bytes)
@@ -145,9 +150,9 @@ code-is_done front count i arms bytes total le so_far =
     let one : with_front front (code_from (count - i) arms bytes) ≡ Err (at rule.Size 0) = rw k refl in
     sym so_far ∙ one
 
-pub code-begins : (bytes : List ℕ) → with_front [] (code_from (length bytes - 0) (reverse []) bytes) ≡ expression_at bytes
+pub code-begins : (bytes : List ℕ) → with_front [] (code_from (length bytes - 0) at_begin bytes) ≡ expression_at bytes
 unfolding expression_at
-code-begins bytes = rw sub-zero (unread (code_from (length bytes) [] bytes))
+code-begins bytes = rw sub-zero (unread (code_from (length bytes) at_begin bytes))
 
 -- ---- custom sections
 

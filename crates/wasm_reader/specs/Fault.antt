@@ -1,7 +1,7 @@
 -- Which rule fails where: docs/MODULE.md, "What is refused". Each definition relates a rule, how many bytes are
 -- left from the byte at which it fails, and the bytes. A rule fails at a byte only where the parts before it are
 -- spelled, one after another.
-use Rattle.std.specs.Prelude.{ℕ, ◌≡◌, ◌≢◌, ◌+◌, ◌-◌, ◌<◌, ◌≤◌, ◌⊎◌, List, [], ◌∷◌, ◌++◌, length, take, Contains, Option, Bool, true, false, ◌==◌, if◌then◌else◌}
+use Rattle.std.specs.Prelude.{ℕ, ◌≡◌, ◌≢◌, ◌+◌, ◌-◌, ◌<◌, ◌≤◌, ◌⊎◌, List, [], ◌∷◌, ◌++◌, length, take, Contains, Option, None, Bool, ◌==◌, if◌then◌else◌}
 use Rattle.std.specs.Str.{IsUtf8}
 use Rattle.std.specs.Str.Lossy.{utf8_valid_len}
 use Rattle.wasm_tree.specs.declared.failure.ModuleRule.{ModuleRule}
@@ -20,7 +20,9 @@ use Rattle.wasm_tree.specs.declared.module.Segment.{Segment}
 use Rattle.wasm_tree.specs.declared.module.Custom.{Custom}
 use Rattle.wasm_tree.specs.declared.instr.Instr.{Instr}
 use Rattle.wasm_tree.specs.declared.instr.Instr.TheVariants as instr
-use Rattle.wasm_tree.specs.Spelled.{Joined, Is, Begins, Each, Vector, Index, Signed, Name, Type_of_value, Type_of_function, Memory, Imported, Exported, Global, Data, Locals, LocalRuns, count_of_locals, most_locals, Body, Expression, most_open, Instruction, Custom_contents, Raw, Section, ids, InOrder, Lists, header, type_byte, result_byte, mutable_byte}
+use Rattle.wasm_tree.specs.Opcode.{opcode_of}
+use Rattle.wasm_tree.specs.Control.{most_open, after_instruction, IsOpen}
+use Rattle.wasm_tree.specs.Spelled.{Joined, Is, Begins, Each, Vector, Index, Signed, Utf8Text, Type_of_value, Type_of_function, Memory, Imported, Exported, Global, Data, Locals, LocalRuns, count_of_locals, most_locals, Body, Expression, Instruction, IsConstant, Custom_contents, Raw, RawSection, ids, InOrder, Lists, header, type_byte, result_byte, mutable_byte}
 
 -- ---- parts and sequences
 
@@ -93,19 +95,22 @@ abbrev pub NoExportKind : ModuleRule → ℕ → List ℕ → Type 0
 NoExportKind r left bytes = OtherByte (λ b. (b ≡ 0x00) ⊎ (b ≡ 0x02)) r left bytes ⊎ (Begins 0x00 (NoIndex r left) bytes ⊎ Begins 0x02 (NoIndex r left) bytes)
 
 abbrev pub NoImport : ModuleRule → ℕ → List ℕ → Type 0
-NoImport = InTurn NoName Name (λ _. InTurn NoName Name (λ _. NoImportKind))
+NoImport = InTurn NoName Utf8Text (λ _. InTurn NoName Utf8Text (λ _. NoImportKind))
 
 abbrev pub NoExport : ModuleRule → ℕ → List ℕ → Type 0
-NoExport = InTurn NoName Name (λ _. NoExportKind)
+NoExport = InTurn NoName Utf8Text (λ _. NoExportKind)
 
 -- a global's first value is a constant, and ended
 abbrev pub NoConstant : ModuleRule → ℕ → List ℕ → Type 0
 NoConstant r left bytes =
     OtherByte (λ b. (b ≡ 0x41) ⊎ (b ≡ 0x42)) r left bytes ⊎ (Begins 0x41 (NoNumber (Signed 32) r left) bytes ⊎ Begins 0x42 (NoNumber (Signed 64) r left) bytes)
 
+abbrev pub Constant : Instr → List ℕ → Type 0
+Constant i bytes = Instruction i bytes × IsConstant i
+
 abbrev pub NoGlobal : ModuleRule → ℕ → List ℕ → Type 0
 NoGlobal = InTurn NoType Type_of_value (λ _. InTurn (OtherByte (λ b. (m : Bool) × (b ≡ mutable_byte m))) (λ m bytes. bytes ≡ mutable_byte m ∷ [])
-    (λ _. InTurn NoConstant Instruction (λ _. OtherByte (λ b. b ≡ 0x0B))))
+    (λ _. InTurn NoConstant Constant (λ _. OtherByte (λ b. b ≡ 0x0B))))
 
 abbrev pub NoData : ModuleRule → ℕ → List ℕ → Type 0
 NoData = InTurn NoIndex Index (λ _. Behind 0x41 (InTurn (NoNumber (Signed 32)) (Signed 32) (λ _. Behind 0x0B NoText)))
@@ -128,7 +133,7 @@ NoLocalRuns = InTurn NoIndex Index (λ n r left bytes.
 -- ---- instructions and code
 
 abbrev pub IsOpcode : ℕ → Type 0
-IsOpcode b = (i : Instr) × (bytes : List ℕ) × Instruction i (b ∷ bytes)
+IsOpcode b = (i : Instr) × (b ≡ opcode_of i)
 
 abbrev pub IsResult : ℕ → Type 0
 IsResult b = (t : Option ValType) × (b ≡ result_byte t)
@@ -140,7 +145,7 @@ NoImmediate (instr.Loop t) r left bytes = OtherByte IsResult r left bytes
 NoImmediate (instr.If t) r left bytes = OtherByte IsResult r left bytes
 NoImmediate (instr.Br n) r left bytes = NoIndex r left bytes
 NoImmediate (instr.BrIf n) r left bytes = NoIndex r left bytes
-NoImmediate (instr.BrTable ns n) r left bytes = InTurn (NoVector Index NoIndex) (Vector Index) (λ _. NoIndex) r left bytes
+NoImmediate (instr.BrTable table) r left bytes = InTurn (NoVector Index NoIndex) (Vector Index) (λ _. NoIndex) r left bytes
 NoImmediate (instr.Call n) r left bytes = NoIndex r left bytes
 NoImmediate (instr.LocalGet n) r left bytes = NoIndex r left bytes
 NoImmediate (instr.LocalSet n) r left bytes = NoIndex r left bytes
@@ -154,34 +159,18 @@ NoImmediate (instr.I32Const z) r left bytes = NoNumber (Signed 32) r left bytes
 NoImmediate (instr.I64Const z) r left bytes = NoNumber (Signed 64) r left bytes
 NoImmediate _ r left bytes = ⊥
 
--- no opcode, or the opcode of some instruction and then what can't stand behind it
+-- no opcode, or the opcode of an instruction and then what can't stand behind it
 abbrev pub NoInstruction : ModuleRule → ℕ → List ℕ → Type 0
-NoInstruction r left bytes =
-    OtherByte IsOpcode r left bytes
-    ⊎ ((i : Instr) × (opcode : ℕ) × (like : List ℕ) × (rest : List ℕ) × (bytes ≡ opcode ∷ rest) × Instruction i (opcode ∷ like) × NoImmediate i r left rest)
-
--- after these instructions these sequences are open, innermost first, as `IsClosed` of wasm_tree counts them
-abbrev pub IsOpen : List Bool → List Instr → List Bool → Type 0
-IsOpen arms [] after = after ≡ arms
-IsOpen [] (instr.End ∷ code) after = ⊥
-IsOpen (arm ∷ arms) (instr.End ∷ code) after = IsOpen arms code after
-IsOpen [] (instr.Else ∷ code) after = ⊥
-IsOpen (false ∷ arms) (instr.Else ∷ code) after = ⊥
-IsOpen (true ∷ arms) (instr.Else ∷ code) after = IsOpen (false ∷ arms) code after
-IsOpen arms (instr.Block result ∷ code) after = (length arms < most_open) × IsOpen (false ∷ arms) code after
-IsOpen arms (instr.Loop result ∷ code) after = (length arms < most_open) × IsOpen (false ∷ arms) code after
-IsOpen arms (instr.If result ∷ code) after = (length arms < most_open) × IsOpen (true ∷ arms) code after
-IsOpen arms (_ ∷ code) after = IsOpen arms code after
+NoInstruction r left bytes = OtherByte IsOpcode r left bytes ⊎ ((i : Instr) × Begins (opcode_of i) (NoImmediate i r left) bytes)
 
 -- `Opcode`: an `else` stands outside the first arm of an `if`
 abbrev pub StrayElse : List Bool → ModuleRule → ℕ → List ℕ → Type 0
-StrayElse (true ∷ arms) r left bytes = ⊥
-StrayElse _ r left bytes = (r ≡ rule.Opcode) × (left ≡ length bytes) × (rest : List ℕ) × (bytes ≡ 0x05 ∷ rest)
+StrayElse arms r left bytes = (r ≡ rule.Opcode) × (left ≡ length bytes) × Begins 0x05 (λ _. after_instruction arms instr.Else ≡ None) bytes
 
 -- a sequence is opened, by `block`, `loop` or `if`, inside as many as may be open
 abbrev pub IsTooDeep : List Bool → List ℕ → Type 0
 IsTooDeep arms [] = ⊥
-IsTooDeep arms (b ∷ bytes) = (most_open ≤ length arms) × ((b ≡ 0x02) ⊎ ((b ≡ 0x03) ⊎ (b ≡ 0x04)))
+IsTooDeep arms (b ∷ bytes) = (most_open < length arms) × ((b ≡ 0x02) ⊎ ((b ≡ 0x03) ⊎ (b ≡ 0x04)))
 
 -- `Limit`: sequences stand too deep inside one another
 abbrev pub TooDeep : List Bool → ModuleRule → ℕ → List ℕ → Type 0
@@ -190,7 +179,7 @@ TooDeep arms r left bytes = (r ≡ rule.Limit) × (left ≡ length bytes) × IsT
 -- after instructions that don't end the function, one fails
 abbrev pub NoExpression : ModuleRule → ℕ → List ℕ → Type 0
 NoExpression r left bytes =
-    (code : List Instr) × (arms : List Bool) × IsOpen [] code arms
+    (code : List Instr) × (arms : List Bool) × IsOpen code arms × (0 < length arms)
     × Joined (Each Instruction code) (λ back. TooDeep arms r left back ⊎ ((IsTooDeep arms back → ⊥) × (NoInstruction r left back ⊎ StrayElse arms r left back))) bytes
 
 abbrev pub BodyContents : FuncBody → List ℕ → Type 0
@@ -201,31 +190,26 @@ NoBody = NoneSized BodyContents (InTurn NoLocalRuns LocalRuns (λ _. NoExpressio
 
 -- ---- sections and modules
 
+-- A kind of section has this id: Q of what its contents are, of what spells them, and of what fails of them.
+abbrev pub OfKind : ((A : Type 0) → (A → List ℕ → Type 0) → (ModuleRule → ℕ → List ℕ → Type 0) → Type 0) → ℕ → Type 0
+OfKind Q id =
+    ((id ≡ 0) × Q Custom Custom_contents NoName)
+    ⊎ (((id ≡ 1) × Q (List FuncType) (Vector Type_of_function) (NoVector Type_of_function NoFunctionType))
+    ⊎ (((id ≡ 2) × Q (List Import) (Vector Imported) (NoVector Imported NoImport))
+    ⊎ (((id ≡ 3) × Q (List ℕ) (Vector Index) (NoVector Index NoIndex))
+    ⊎ (((id ≡ 5) × Q (List Limits) (Vector Memory) (NoVector Memory NoMemory))
+    ⊎ (((id ≡ 6) × Q (List GlobalVar) (Vector Global) (NoVector Global NoGlobal))
+    ⊎ (((id ≡ 7) × Q (List ExportEntry) (Vector Exported) (NoVector Exported NoExport))
+    ⊎ (((id ≡ 10) × Q (List FuncBody) (Vector Body) (NoVector Body NoBody))
+    ⊎ (((id ≡ 11) × Q (List Segment) (Vector Data) (NoVector Data NoData))))))))))
+
 -- contents that a section with this id may have
 abbrev pub Holds : ℕ → List ℕ → Type 0
-Holds id contents =
-    ((id ≡ 0) × (c : Custom) × Custom_contents c contents)
-    ⊎ (((id ≡ 1) × (xs : List FuncType) × Vector Type_of_function xs contents)
-    ⊎ (((id ≡ 2) × (xs : List Import) × Vector Imported xs contents)
-    ⊎ (((id ≡ 3) × (xs : List ℕ) × Vector Index xs contents)
-    ⊎ (((id ≡ 5) × (xs : List Limits) × Vector Memory xs contents)
-    ⊎ (((id ≡ 6) × (xs : List GlobalVar) × Vector Global xs contents)
-    ⊎ (((id ≡ 7) × (xs : List ExportEntry) × Vector Exported xs contents)
-    ⊎ (((id ≡ 10) × (xs : List FuncBody) × Vector Body xs contents)
-    ⊎ (((id ≡ 11) × (xs : List Segment) × Vector Data xs contents)))))))))
+Holds id contents = OfKind (λ A P F. (x : A) × P x contents) id
 
 -- the size and the contents behind this id fail
 abbrev pub NoContents : ℕ → ModuleRule → ℕ → List ℕ → Type 0
-NoContents id r left bytes =
-    ((id ≡ 0) × NoneSized Custom_contents NoName r left bytes)
-    ⊎ (((id ≡ 1) × NoneSized (Vector Type_of_function) (NoVector Type_of_function NoFunctionType) r left bytes)
-    ⊎ (((id ≡ 2) × NoneSized (Vector Imported) (NoVector Imported NoImport) r left bytes)
-    ⊎ (((id ≡ 3) × NoneSized (Vector Index) (NoVector Index NoIndex) r left bytes)
-    ⊎ (((id ≡ 5) × NoneSized (Vector Memory) (NoVector Memory NoMemory) r left bytes)
-    ⊎ (((id ≡ 6) × NoneSized (Vector Global) (NoVector Global NoGlobal) r left bytes)
-    ⊎ (((id ≡ 7) × NoneSized (Vector Exported) (NoVector Exported NoExport) r left bytes)
-    ⊎ (((id ≡ 10) × NoneSized (Vector Body) (NoVector Body NoBody) r left bytes)
-    ⊎ (((id ≡ 11) × NoneSized (Vector Data) (NoVector Data NoData) r left bytes)))))))))
+NoContents id r left bytes = OfKind (λ A P F. NoneSized P F r left bytes) id
 
 abbrev pub AllHold : List Raw → Type 0
 AllHold [] = Unit {0}
@@ -260,13 +244,13 @@ NoHeader r left bytes =
 -- after the header, and sections in order that hold what they may, the next section fails
 abbrev pub NoNext : ModuleRule → ℕ → List ℕ → Type 0
 NoNext r left bytes =
-    (raws : List Raw) × InOrder 0 raws × AllHold raws × Joined (Is header) (Joined (Each Section raws) (NoSection (last_id 0 raws) r left)) bytes
+    (raws : List Raw) × InOrder 0 raws × AllHold raws × Joined (Is header) (Joined (Each RawSection raws) (NoSection (last_id 0 raws) r left)) bytes
 
 -- `Size`, at the end: codes and functions differ in number
 abbrev pub CountsDiffer : ModuleRule → ℕ → List ℕ → Type 0
 CountsDiffer r left bytes =
     (r ≡ rule.Size) × (left ≡ 0) × (raws : List Raw) × (functions : List ℕ) × (codes : List FuncBody)
-    × InOrder 0 raws × Joined (Is header) (Each Section raws) bytes × Lists Index 3 raws functions × Lists Body 10 raws codes × (length functions ≢ length codes)
+    × InOrder 0 raws × Joined (Is header) (Each RawSection raws) bytes × Lists Index 3 raws functions × Lists Body 10 raws codes × (length functions ≢ length codes)
 
 -- the rule fails at the byte from which so many are left
 abbrev pub NoModule : ModuleRule → ℕ → List ℕ → Type 0

@@ -1,5 +1,5 @@
 -- Reading from left to right, with the first fault that is met.
-use Rattle.std.specs.Prelude.{◌≡◌, ℕ, zero, suc, ◌+◌, ◌-◌, ◌*◌, ◌^◌, min, List, [], ◌∷◌, ◌++◌, length, take, drop, slice_index_or, Option, Some, None, Result, Ok, Err, nat_lt, nat_le, ◌==◌, if◌then◌else◌, Bool, true, false, ◌&&◌, ℤ, pos, ◌+ℤ◌, ◌-ℤ◌, ◌*ℤ◌}
+use Rattle.std.specs.Prelude.{◌≡◌, ℕ, zero, suc, ◌+◌, ◌-◌, ◌*◌, ◌^◌, min, List, [], ◌∷◌, ◌++◌, length, take, drop, Option, Some, None, Result, Ok, Err, nat_lt, nat_le, ◌==◌, if◌then◌else◌, Bool, true, false, ◌&&◌, ℤ, pos, ◌+ℤ◌, ◌-ℤ◌, ◌*ℤ◌}
 use Rattle.std.specs.Str.{is_utf8}
 use Rattle.std.specs.Str.Lossy.{utf8_valid_len}
 use Rattle.wasm_tree.specs.declared.failure.ModuleRule.{ModuleRule}
@@ -18,27 +18,19 @@ use Rattle.wasm_tree.specs.declared.module.GlobalVar.{GlobalVar}
 use Rattle.wasm_tree.specs.declared.module.LocalRun.{LocalRun}
 use Rattle.wasm_tree.specs.declared.module.Segment.{Segment}
 use Rattle.wasm_tree.specs.declared.instr.MemArg.{MemArg}
+use Rattle.wasm_tree.specs.declared.instr.LabelTable.{LabelTable}
 use Rattle.wasm_tree.specs.declared.instr.Instr.{Instr}
 use Rattle.wasm_tree.specs.declared.instr.Instr.TheVariants as instr
 use Rattle.wasm_tree.specs.declared.module.FuncBody.{FuncBody}
 use Rattle.wasm_tree.specs.declared.module.Custom.{Custom}
 use Rattle.wasm_tree.specs.declared.module.Module.{Module}
-use Rattle.wasm_tree.specs.Spelled.{is_text, cmajor, header, most_open, most_locals}
+use Rattle.wasm_tree.specs.Control.{most_open, at_begin, after_instruction}
+use Rattle.wasm_tree.specs.Spelled.{is_cmajor, header, most_locals}
+use Rattle.wasm_reader.specs.Samples.{sample_of}
 use Rattle.wasm_reader.specs.declared.section.Found.{Found}
-use Rattle.wasm_reader.specs.declared.reader.FirstParts.{FirstParts}
-use Rattle.wasm_reader.specs.declared.reader.LastParts.{LastParts}
 use Rattle.wasm_reader.specs.declared.fault.Fault.{Fault}
 use Rattle.wasm_reader.specs.declared.fault.ReadFail.{ReadFail}
 use Rattle.wasm_reader.specs.declared.fault.ReadFail.TheVariants as fail
-use Rattle.wasm_reader.specs.declared.form.Bare.{Bare}
-use Rattle.wasm_reader.specs.declared.form.Bare.TheVariants as bare
-use Rattle.wasm_reader.specs.declared.form.Opening.{Opening}
-use Rattle.wasm_reader.specs.declared.form.Opening.TheVariants as opening
-use Rattle.wasm_reader.specs.declared.form.Indexed.{Indexed}
-use Rattle.wasm_reader.specs.declared.form.Indexed.TheVariants as indexed
-use Rattle.wasm_reader.specs.declared.form.Form.{Form}
-use Rattle.wasm_reader.specs.declared.form.Form.TheVariants as form
-use Rattle.wasm_reader.specs.declared.opcodes.TheConstants.{FORMS}
 
 infixl 10 ◌>>=◌
 abbrev pub ◌>>=◌ : {A B : Type 0} → Result A Fault → (A → Result B Fault) → Result B Fault
@@ -125,16 +117,25 @@ filled_at f bytes = do
   size ← index_at bytes
   full_at size.0 size.1 (f (take size.0 size.1))
 
+-- so many bytes
+unfoldable pub take_at : ℕ → Reader (List ℕ)
+take_at n bytes = if nat_lt (length bytes) n then Err (at rule.Size 0) else Ok (take n bytes, drop n bytes)
+
 unfoldable pub text_at : Reader (List ℕ)
 text_at bytes = do
   n ← index_at bytes
-  if nat_lt (length n.1) n.0 then Err (at rule.Size 0) else Ok (take n.0 n.1, drop n.0 n.1)
+  take_at n.0 n.1
+
+-- so many bytes, which are UTF-8
+unfoldable pub utf8_at : ℕ → Reader (List ℕ)
+utf8_at n bytes = do
+  text ← take_at n bytes
+  if is_utf8 text.0 then Ok text else Err (at rule.Text (length bytes - utf8_valid_len text.0))
 
 unfoldable pub name_at : Reader (List ℕ)
 name_at bytes = do
   n ← index_at bytes
-  if nat_lt (length n.1) n.0 then Err (at rule.Size 0)
-      else (if is_utf8 (take n.0 n.1) then Ok (take n.0 n.1, drop n.0 n.1) else Err (at rule.Text (length n.1 - utf8_valid_len (take n.0 n.1))))
+  utf8_at n.0 n.1
 
 -- ---- types and entries
 
@@ -232,39 +233,6 @@ local_runs_at bytes = do
 
 -- ---- instructions
 
-abbrev pub bare_instr : Bare → Instr
-bare_instr bare.Unreachable = instr.Unreachable
-bare_instr bare.Nop = instr.Nop
-bare_instr bare.Else = instr.Else
-bare_instr bare.End = instr.End
-bare_instr bare.Return = instr.Return
-bare_instr bare.Drop = instr.Drop
-bare_instr bare.Select = instr.Select
-bare_instr (bare.Test t) = instr.Test t
-bare_instr (bare.Compare t op) = instr.Compare t op
-bare_instr (bare.Unary t op) = instr.Unary t op
-bare_instr (bare.Binary t op) = instr.Binary t op
-bare_instr (bare.Convert op) = instr.Convert op
-
-abbrev pub opening_instr : Opening → Option ValType → Instr
-opening_instr opening.Block t = instr.Block t
-opening_instr opening.Loop t = instr.Loop t
-opening_instr opening.If t = instr.If t
-
-abbrev pub indexed_instr : Indexed → ℕ → Instr
-indexed_instr indexed.Br n = instr.Br n
-indexed_instr indexed.BrIf n = instr.BrIf n
-indexed_instr indexed.Call n = instr.Call n
-indexed_instr indexed.LocalGet n = instr.LocalGet n
-indexed_instr indexed.LocalSet n = instr.LocalSet n
-indexed_instr indexed.LocalTee n = instr.LocalTee n
-indexed_instr indexed.GlobalGet n = instr.GlobalGet n
-indexed_instr indexed.GlobalSet n = instr.GlobalSet n
-
--- what stands behind an opcode
-unfoldable pub form_of : ℕ → Form
-form_of opcode = slice_index_or FORMS opcode form.Unknown
-
 unfoldable pub block_type_at : Reader (Option ValType)
 block_type_at bytes = do
   b ← byte_at bytes
@@ -276,55 +244,73 @@ place_at bytes = do
   offset ← index_at align.1
   Ok (record { align = align.0; offset = offset.0 }, offset.1)
 
--- what is left of an instruction that began where start bytes were left
-abbrev pub rest_at : ℕ → Form → Reader Instr
-rest_at start form.Unknown bytes = Err (at rule.Opcode start)
-rest_at start (form.Bare f) bytes = Ok (bare_instr f, bytes)
-rest_at start (form.Opening f) bytes = block_type_at bytes >>= λ t. Ok (opening_instr f t.0, t.1)
-rest_at start (form.Indexed f) bytes = index_at bytes >>= λ n. Ok (indexed_instr f n.0, n.1)
-rest_at start (form.Load op) bytes = place_at bytes >>= λ p. Ok (instr.Load op p.0, p.1)
-rest_at start (form.Store op) bytes = place_at bytes >>= λ p. Ok (instr.Store op p.0, p.1)
-rest_at start form.BrTable bytes = vector_at index_at bytes >>= λ labels. index_at labels.1 >>= λ other. Ok (instr.BrTable labels.0 other.0, other.1)
-rest_at start form.MemorySize bytes = fixed_at 0x00 bytes >>= λ rest. Ok (instr.MemorySize, rest)
-rest_at start form.I32Const bytes = signed_at 32 bytes >>= λ z. Ok (instr.I32Const z.0, z.1)
-rest_at start form.I64Const bytes = signed_at 64 bytes >>= λ z. Ok (instr.I64Const z.0, z.1)
+unfoldable pub labels_at : Reader LabelTable
+labels_at bytes = do
+  labels ← vector_at index_at bytes
+  other ← index_at labels.1
+  Ok (record { labels = labels.0; other = other.0 }, other.1)
+
+-- an instruction like this one, by what stands behind its opcode
+abbrev pub immediates_at : Instr → Reader Instr
+immediates_at (instr.Block _) bytes = block_type_at bytes >>= λ t. Ok (instr.Block t.0, t.1)
+immediates_at (instr.Loop _) bytes = block_type_at bytes >>= λ t. Ok (instr.Loop t.0, t.1)
+immediates_at (instr.If _) bytes = block_type_at bytes >>= λ t. Ok (instr.If t.0, t.1)
+immediates_at (instr.Br _) bytes = index_at bytes >>= λ n. Ok (instr.Br n.0, n.1)
+immediates_at (instr.BrIf _) bytes = index_at bytes >>= λ n. Ok (instr.BrIf n.0, n.1)
+immediates_at (instr.BrTable _) bytes = labels_at bytes >>= λ t. Ok (instr.BrTable t.0, t.1)
+immediates_at (instr.Call _) bytes = index_at bytes >>= λ n. Ok (instr.Call n.0, n.1)
+immediates_at (instr.LocalGet _) bytes = index_at bytes >>= λ n. Ok (instr.LocalGet n.0, n.1)
+immediates_at (instr.LocalSet _) bytes = index_at bytes >>= λ n. Ok (instr.LocalSet n.0, n.1)
+immediates_at (instr.LocalTee _) bytes = index_at bytes >>= λ n. Ok (instr.LocalTee n.0, n.1)
+immediates_at (instr.GlobalGet _) bytes = index_at bytes >>= λ n. Ok (instr.GlobalGet n.0, n.1)
+immediates_at (instr.GlobalSet _) bytes = index_at bytes >>= λ n. Ok (instr.GlobalSet n.0, n.1)
+immediates_at (instr.Load op _) bytes = place_at bytes >>= λ p. Ok (instr.Load op p.0, p.1)
+immediates_at (instr.Store op _) bytes = place_at bytes >>= λ p. Ok (instr.Store op p.0, p.1)
+immediates_at instr.MemorySize bytes = fixed_at 0x00 bytes >>= λ rest. Ok (instr.MemorySize, rest)
+immediates_at (instr.I32Const _) bytes = signed_at 32 bytes >>= λ z. Ok (instr.I32Const z.0, z.1)
+immediates_at (instr.I64Const _) bytes = signed_at 64 bytes >>= λ z. Ok (instr.I64Const z.0, z.1)
+immediates_at i bytes = Ok (i, bytes)
+
+-- what stands behind an opcode, if it is one, which began where start bytes were left
+abbrev pub like_at : ℕ → Option Instr → Reader Instr
+like_at start None bytes = Err (at rule.Opcode start)
+like_at start (Some i) bytes = immediates_at i bytes
+
+unfoldable pub behind_at : ℕ → ℕ → Reader Instr
+behind_at start opcode bytes = like_at start (sample_of opcode) bytes
 
 unfoldable pub instruction_at : Reader Instr
 instruction_at bytes = do
   opcode ← byte_at bytes
-  rest_at (length bytes) (form_of opcode.0) opcode.1
+  behind_at (length bytes) opcode.0 opcode.1
 
 -- ---- code
-
--- Opens or ends sequences as the instruction does that began where start bytes are left: whether it ends the
--- function, and the sequences that are open after it, innermost first.
-abbrev pub follow_at : ℕ → List Bool → Instr → Result (Bool × List Bool) Fault
-follow_at start arms (instr.Block t) = Ok (false, false ∷ arms)
-follow_at start arms (instr.Loop t) = Ok (false, false ∷ arms)
-follow_at start arms (instr.If t) = Ok (false, true ∷ arms)
-follow_at start (true ∷ arms) instr.Else = Ok (false, false ∷ arms)
-follow_at start _ instr.Else = Err (at rule.Opcode start)
-follow_at start [] instr.End = Ok (true, [])
-follow_at start (arm ∷ arms) instr.End = Ok (false, arms)
-follow_at start arms _ = Ok (false, arms)
 
 -- whether the first byte is the opcode of `block`, `loop` or `if`
 unfoldable pub opens : List ℕ → Bool
 opens [] = false
 opens (b ∷ bytes) = nat_le 0x02 b && nat_le b 0x04
 
--- A sequence is opened only inside fewer than may be open.
+-- A sequence is opened only inside as many as may be open.
 unfoldable pub room_at : List Bool → List ℕ → Result Unit Fault
-room_at arms bytes = if nat_le most_open (length arms) && opens bytes then Err (at rule.Limit (length bytes)) else Ok tt
+room_at arms bytes = if nat_lt most_open (length arms) && opens bytes then Err (at rule.Limit (length bytes)) else Ok tt
+
+abbrev pub or_fault : {A : Type 0} → Fault → Option A → Result A Fault
+or_fault f None = Err f
+or_fault f (Some x) = Ok x
+
+-- what is open after an instruction that began where start bytes were left
+abbrev pub follow_at : ℕ → List Bool → Instr → Result (List Bool) Fault
+follow_at start arms i = or_fault (at rule.Opcode start) (after_instruction arms i)
 
 -- at most so many instructions, up to the end of the function
 unfoldable pub code_from : ℕ → List Bool → Reader (List Instr)
 code_from zero arms bytes = Err (at rule.Size 0)
-code_from (suc n) arms bytes = room_at arms bytes >>= λ _. instruction_at bytes >>= λ i. follow_at (length bytes) arms i.0 >>= λ s.
-    if s.0 then Ok (i.0 ∷ [], i.1) else (code_from n s.1 i.1 >>= λ more. Ok (i.0 ∷ more.0, more.1))
+code_from (suc n) arms bytes = room_at arms bytes >>= λ _. instruction_at bytes >>= λ i. follow_at (length bytes) arms i.0 >>= λ next.
+    if length next == 0 then Ok (i.0 ∷ [], i.1) else (code_from n next i.1 >>= λ more. Ok (i.0 ∷ more.0, more.1))
 
 unfoldable pub expression_at : Reader (List Instr)
-expression_at bytes = code_from (length bytes) [] bytes
+expression_at bytes = code_from (length bytes) at_begin bytes
 
 unfoldable pub body_at : Reader FuncBody
 body_at bytes = do
@@ -341,7 +327,7 @@ custom_at bytes = do
 
 abbrev pub with_custom : Custom → Found → Found
 with_custom custom found =
-    if is_text custom.name cmajor then record { others = found.others; named = found.named ++ custom ∷ [] }
+    if is_cmajor custom.name then record { others = found.others; named = found.named ++ custom ∷ [] }
     else record { others = found.others ++ custom ∷ []; named = found.named }
 
 -- the bytes behind this id, if it is the first byte
@@ -377,6 +363,20 @@ header_byte_at due (b ∷ bytes) = if b == due then Ok bytes else Err (at rule.H
 unfoldable pub header_at : List ℕ → List ℕ → Result (List ℕ) Fault
 header_at [] bytes = Ok bytes
 header_at (due ∷ dues) bytes = header_byte_at due bytes >>= λ rest. header_at dues rest
+
+-- what the sections up to the memories list
+pub record FirstParts : Type 0 where
+  pub types : List FuncType
+  pub imports : List Import
+  pub functions : List ℕ
+  pub memory : List Limits
+
+-- what the sections from the globals on list
+pub record LastParts : Type 0 where
+  pub globals : List GlobalVar
+  pub exports : List ExportEntry
+  pub codes : List FuncBody
+  pub segments : List Segment
 
 unfoldable pub head_at : Found → Reader (FirstParts × Found)
 head_at found bytes = do

@@ -1,14 +1,14 @@
-ghost use Rattle.std.specs.Prelude.{◌≡◌, reverse, length};
+ghost use Rattle.std.specs.Prelude.{◌≡◌, length};
 ghost use Rattle.wasm_reader.specs.Reading.{Gives, opens as opens_at, room_at, follow_at, expression_at, body_at, filled_at};
 
-use crate::fault::{ReadFail, beyond, missing, unknown};
+use crate::cursor::Cursor;
+use crate::decode::{Decode, Filling, filled};
+use crate::fault::{ReadFail, at};
 use crate::instr::instr;
 use crate::locals::locals;
-use crate::part::{Filling, Part, filled};
 use cm_base::Items;
-use cm_base::limits::NESTING;
 use std::alloc::Global;
-use wasm_tree::{FuncBody, Instr};
+use wasm_tree::{ControlStack, FuncBody, Instr, ModuleRule};
 
 /// Whether the first byte is the opcode of an instruction that opens a sequence.
 #[tactic(auto, unfolding(crate::specs::Reading::opens))]
@@ -23,52 +23,43 @@ fn opens(bytes: &[u8]) -> bool
 
 /// Refuses to open a sequence inside as many as may be open.
 #[tactic(auto, unfolding(crate::specs::Reading::room_at))]
-fn room(arms: &Items<bool>, bytes: &[u8]) -> Result<(), ReadFail>
-    ensures { Gives (λ _. tt) result (room_at (reverse arms.now) bytes.now) }
+fn room(control: &ControlStack, cursor: &Cursor<'_>) -> Result<(), ReadFail>
+    ensures { Gives (λ _. tt) result (room_at control.now cursor.now) }
 {
-    if arms.len() >= NESTING as usize && opens(bytes) {
-        return Err(beyond(bytes));
+    if control.is_full() && opens(cursor.rest()) {
+        return Err(at(ModuleRule::Limit, cursor.left()));
     }
     Ok(())
 }
 
-/// Opens or ends sequences as the instruction at the front of the bytes does, and says whether it ends the
-/// function. `arms` has the open sequences, innermost last, with true for the first arm of an `if`.
-fn follow(arms: &mut Items<bool>, instr: &Instr, bytes: &[u8]) -> Result<bool, ReadFail>
-    ensures { Gives (λ ended. (ended, reverse arms.new)) result (follow_at (length bytes.now) (reverse arms.old) instr.now) }
+/// Follows the instruction that begins where `start` bytes are left, and isn't too deep.
+fn follow(control: &mut ControlStack, instr: &Instr, start: usize) -> Result<(), ReadFail>
+    ensures { Gives (λ _. control.new) result (follow_at start control.old instr.now) }
 {
-    match instr {
-        Instr::Block(_) => arms.push(false)?,
-        Instr::Loop(_) => arms.push(false)?,
-        Instr::If(_) => arms.push(true)?,
-        Instr::Else => match arms.pop() {
-            Some(true) => arms.push(false)?,
-            _ => return Err(unknown(bytes)),
-        },
-        Instr::End => return Ok(arms.pop().is_none()),
-        _ => {}
+    if control.follow(instr) {
+        Ok(())
+    } else {
+        Err(at(ModuleRule::Opcode, start))
     }
-    Ok(false)
 }
 
 /// The code of a function, up to its own `end`. Each instruction takes a byte at least.
-pub fn expression(alloc: Global, bytes: &[u8]) -> Result<(Items<Instr>, &[u8]), ReadFail>
-    ensures { Gives (λ x. (x.0, x.1.now)) result (expression_at bytes.now) }
+pub fn expression(alloc: Global, cursor: &mut Cursor<'_>) -> Result<Items<Instr>, ReadFail>
+    ensures { Gives (λ x. (x, cursor.new)) result (expression_at cursor.old) }
 {
-    let mut arms = Items::new(alloc);
+    let mut control = ControlStack::new();
     let mut code = Items::new(alloc);
-    let mut rest = bytes;
-    for _ in 0..bytes.len() {
-        room(&arms, rest)?;
-        let (instr, after) = instr(alloc, rest)?;
-        let ended = follow(&mut arms, &instr, rest)?;
+    for _ in 0..cursor.left() {
+        let start = cursor.left();
+        room(&control, cursor)?;
+        let instr = instr(alloc, cursor)?;
+        follow(&mut control, &instr, start)?;
         code.push(instr)?;
-        rest = after;
-        if ended {
-            return Ok((code, rest));
+        if control.is_ended() {
+            return Ok(code);
         }
     }
-    Err(missing())
+    Err(at(ModuleRule::Size, 0))
 }
 
 /// The locals and the code that fill a body's size.
@@ -76,17 +67,17 @@ impl Filling for FuncBody {
     ghost fills = { body_at };
 
     #[tactic(auto, unfolding(crate::specs::Reading::body_at))]
-    fn fill(alloc: Global, bytes: &[u8]) -> Result<(FuncBody, &[u8]), ReadFail> {
-        let (locals, rest) = locals(alloc, bytes)?;
-        let (code, rest) = expression(alloc, rest)?;
-        Ok((FuncBody { locals, code }, rest))
+    fn fill(alloc: Global, cursor: &mut Cursor<'_>) -> Result<FuncBody, ReadFail> {
+        let locals = locals(alloc, cursor)?;
+        let code = expression(alloc, cursor)?;
+        Ok(FuncBody { locals, code })
     }
 }
 
-impl Part for FuncBody {
+impl Decode for FuncBody {
     ghost reads = { filled_at body_at };
 
-    fn read(alloc: Global, bytes: &[u8]) -> Result<(FuncBody, &[u8]), ReadFail> {
-        filled(alloc, bytes)
+    fn read(alloc: Global, cursor: &mut Cursor<'_>) -> Result<FuncBody, ReadFail> {
+        filled(alloc, cursor)
     }
 }

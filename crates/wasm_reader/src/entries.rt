@@ -1,196 +1,173 @@
 ghost use Rattle.std.specs.Prelude.{◌≡◌};
-ghost use Rattle.wasm_reader.specs.Reading.{Gives, index_at, type_at, name_at, text_at, function_type_at, memory_at, import_at, import_kind_at, export_at, export_kind_at, constant_at, mutable_at, global_at, segment_at};
+ghost use Rattle.wasm_reader.specs.Reading.{Gives, index_at, type_at, function_type_at, memory_at, import_at, import_kind_at, export_at, export_kind_at, constant_at, mutable_at, global_at, segment_at};
 
-use crate::fault::{ReadFail, unknown};
-use crate::number::{byte, fixed, index, signed32, signed64};
-use crate::part::{Filling, Part};
-use crate::text::{name, text};
+use crate::cursor::Cursor;
+use crate::decode::{Decode, Filling};
+use crate::fault::{ReadFail, at};
+use crate::name::name;
 use cm_base::Items;
 use std::alloc::Global;
 use wasm_tree::{
-    ExportEntry, ExportKind, FuncType, GlobalVar, Import, ImportKind, Instr, Limits, Segment,
-    ValType,
+    ExportEntry, ExportKind, FuncType, GlobalVar, Import, ImportKind, Instr, Limits, ModuleRule,
+    Segment, ValType,
 };
 
 /// The number of a type, function or label.
-impl Part for u32 {
+impl Decode for u32 {
     ghost reads = { index_at };
 
-    fn read(_alloc: Global, bytes: &[u8]) -> Result<(u32, &[u8]), ReadFail> {
-        index(bytes)
+    fn read(_alloc: Global, cursor: &mut Cursor<'_>) -> Result<u32, ReadFail> {
+        cursor.index()
     }
 }
 
-impl Part for ValType {
+impl Decode for ValType {
     ghost reads = { type_at };
 
     #[tactic(auto, unfolding(crate::specs::Reading::type_at))]
-    fn read(_alloc: Global, bytes: &[u8]) -> Result<(ValType, &[u8]), ReadFail> {
-        let (code, rest) = byte(bytes)?;
-        match code {
-            0x7F => Ok((ValType::I32, rest)),
-            0x7E => Ok((ValType::I64, rest)),
-            _ => Err(unknown(bytes)),
+    fn read(_alloc: Global, cursor: &mut Cursor<'_>) -> Result<ValType, ReadFail> {
+        let start = cursor.left();
+        match cursor.byte()? {
+            0x7F => Ok(ValType::I32),
+            0x7E => Ok(ValType::I64),
+            _ => Err(at(ModuleRule::Opcode, start)),
         }
     }
 }
 
-impl Part for FuncType {
+impl Decode for FuncType {
     ghost reads = { function_type_at };
 
     #[tactic(auto, unfolding(crate::specs::Reading::function_type_at))]
-    fn read(alloc: Global, bytes: &[u8]) -> Result<(FuncType, &[u8]), ReadFail> {
-        let rest = fixed(0x60, bytes)?;
-        let (params, rest) = Items::<ValType>::fill(alloc, rest)?;
-        let (results, rest) = Items::<ValType>::fill(alloc, rest)?;
-        Ok((FuncType { params, results }, rest))
+    fn read(alloc: Global, cursor: &mut Cursor<'_>) -> Result<FuncType, ReadFail> {
+        cursor.fixed(0x60)?;
+        let params = Items::<ValType>::fill(alloc, cursor)?;
+        let results = Items::<ValType>::fill(alloc, cursor)?;
+        Ok(FuncType { params, results })
     }
 }
 
-impl Part for Limits {
+impl Decode for Limits {
     ghost reads = { memory_at };
 
     #[tactic(auto, unfolding(crate::specs::Reading::memory_at))]
-    fn read(_alloc: Global, bytes: &[u8]) -> Result<(Limits, &[u8]), ReadFail> {
-        let (flag, rest) = byte(bytes)?;
-        match flag {
+    fn read(_alloc: Global, cursor: &mut Cursor<'_>) -> Result<Limits, ReadFail> {
+        let start = cursor.left();
+        match cursor.byte()? {
             0x00 => {
-                let (min, rest) = index(rest)?;
-                Ok((Limits { min, max: None }, rest))
+                let min = cursor.index()?;
+                Ok(Limits { min, max: None })
             }
             0x01 => {
-                let (min, rest) = index(rest)?;
-                let (max, rest) = index(rest)?;
-                let max = Some(max);
-                Ok((Limits { min, max }, rest))
+                let min = cursor.index()?;
+                let max = Some(cursor.index()?);
+                Ok(Limits { min, max })
             }
-            _ => Err(unknown(bytes)),
+            _ => Err(at(ModuleRule::Opcode, start)),
         }
     }
 }
 
 #[tactic(auto, unfolding(crate::specs::Reading::import_kind_at))]
-fn import_kind(alloc: Global, bytes: &[u8]) -> Result<(ImportKind, &[u8]), ReadFail>
-    ensures { Gives (λ x. (x.0, x.1.now)) result (import_kind_at bytes.now) }
+fn import_kind(alloc: Global, cursor: &mut Cursor<'_>) -> Result<ImportKind, ReadFail>
+    ensures { Gives (λ x. (x, cursor.new)) result (import_kind_at cursor.old) }
 {
-    let (code, rest) = byte(bytes)?;
-    match code {
-        0x00 => {
-            let (function, rest) = index(rest)?;
-            Ok((ImportKind::Function(function), rest))
-        }
-        0x02 => {
-            let (limits, rest) = Limits::read(alloc, rest)?;
-            Ok((ImportKind::Memory(limits), rest))
-        }
-        _ => Err(unknown(bytes)),
+    let start = cursor.left();
+    match cursor.byte()? {
+        0x00 => Ok(ImportKind::Function(cursor.index()?)),
+        0x02 => Ok(ImportKind::Memory(Limits::read(alloc, cursor)?)),
+        _ => Err(at(ModuleRule::Opcode, start)),
     }
 }
 
-impl Part for Import {
+impl Decode for Import {
     ghost reads = { import_at };
 
     #[tactic(auto, unfolding(crate::specs::Reading::import_at))]
-    fn read(alloc: Global, bytes: &[u8]) -> Result<(Import, &[u8]), ReadFail> {
-        let (module, rest) = name(alloc, bytes)?;
-        let (name, rest) = name(alloc, rest)?;
-        let (kind, rest) = import_kind(alloc, rest)?;
-        Ok((Import { module, name, kind }, rest))
+    fn read(alloc: Global, cursor: &mut Cursor<'_>) -> Result<Import, ReadFail> {
+        let module = name(alloc, cursor)?;
+        let name = name(alloc, cursor)?;
+        let kind = import_kind(alloc, cursor)?;
+        Ok(Import { module, name, kind })
     }
 }
 
 #[tactic(auto, unfolding(crate::specs::Reading::export_kind_at))]
-fn export_kind(bytes: &[u8]) -> Result<(ExportKind, &[u8]), ReadFail>
-    ensures { Gives (λ x. (x.0, x.1.now)) result (export_kind_at bytes.now) }
+fn export_kind(cursor: &mut Cursor<'_>) -> Result<ExportKind, ReadFail>
+    ensures { Gives (λ x. (x, cursor.new)) result (export_kind_at cursor.old) }
 {
-    let (code, rest) = byte(bytes)?;
-    match code {
-        0x00 => {
-            let (function, rest) = index(rest)?;
-            Ok((ExportKind::Function(function), rest))
-        }
-        0x02 => {
-            let (memory, rest) = index(rest)?;
-            Ok((ExportKind::Memory(memory), rest))
-        }
-        _ => Err(unknown(bytes)),
+    let start = cursor.left();
+    match cursor.byte()? {
+        0x00 => Ok(ExportKind::Function(cursor.index()?)),
+        0x02 => Ok(ExportKind::Memory(cursor.index()?)),
+        _ => Err(at(ModuleRule::Opcode, start)),
     }
 }
 
-impl Part for ExportEntry {
+impl Decode for ExportEntry {
     ghost reads = { export_at };
 
     #[tactic(auto, unfolding(crate::specs::Reading::export_at))]
-    fn read(alloc: Global, bytes: &[u8]) -> Result<(ExportEntry, &[u8]), ReadFail> {
-        let (name, rest) = name(alloc, bytes)?;
-        let (kind, rest) = export_kind(rest)?;
-        Ok((ExportEntry { name, kind }, rest))
+    fn read(alloc: Global, cursor: &mut Cursor<'_>) -> Result<ExportEntry, ReadFail> {
+        let name = name(alloc, cursor)?;
+        let kind = export_kind(cursor)?;
+        Ok(ExportEntry { name, kind })
     }
 }
 
 /// Whether a global may be written.
 #[tactic(auto, unfolding(crate::specs::Reading::mutable_at))]
-fn mutable(bytes: &[u8]) -> Result<(bool, &[u8]), ReadFail>
-    ensures { Gives (λ x. (x.0, x.1.now)) result (mutable_at bytes.now) }
+fn mutable(cursor: &mut Cursor<'_>) -> Result<bool, ReadFail>
+    ensures { Gives (λ x. (x, cursor.new)) result (mutable_at cursor.old) }
 {
-    let (flag, rest) = byte(bytes)?;
-    match flag {
-        0x00 => Ok((false, rest)),
-        0x01 => Ok((true, rest)),
-        _ => Err(unknown(bytes)),
+    let start = cursor.left();
+    match cursor.byte()? {
+        0x00 => Ok(false),
+        0x01 => Ok(true),
+        _ => Err(at(ModuleRule::Opcode, start)),
     }
 }
 
 /// The constant that is a global's first value.
 #[tactic(auto, unfolding(crate::specs::Reading::constant_at))]
-fn constant(bytes: &[u8]) -> Result<(Instr, &[u8]), ReadFail>
-    ensures { Gives (λ x. (x.0, x.1.now)) result (constant_at bytes.now) }
+fn constant(cursor: &mut Cursor<'_>) -> Result<Instr, ReadFail>
+    ensures { Gives (λ x. (x, cursor.new)) result (constant_at cursor.old) }
 {
-    let (opcode, rest) = byte(bytes)?;
-    match opcode {
-        0x41 => {
-            let (value, rest) = signed32(rest)?;
-            Ok((Instr::I32Const(value), rest))
-        }
-        0x42 => {
-            let (value, rest) = signed64(rest)?;
-            Ok((Instr::I64Const(value), rest))
-        }
-        _ => Err(unknown(bytes)),
+    let start = cursor.left();
+    match cursor.byte()? {
+        0x41 => Ok(Instr::I32Const(cursor.signed32()?)),
+        0x42 => Ok(Instr::I64Const(cursor.signed64()?)),
+        _ => Err(at(ModuleRule::Opcode, start)),
     }
 }
 
-impl Part for GlobalVar {
+impl Decode for GlobalVar {
     ghost reads = { global_at };
 
     #[tactic(auto, unfolding(crate::specs::Reading::global_at))]
-    fn read(alloc: Global, bytes: &[u8]) -> Result<(GlobalVar, &[u8]), ReadFail> {
-        let (ty, rest) = ValType::read(alloc, bytes)?;
-        let (mutable, rest) = mutable(rest)?;
-        let (value, rest) = constant(rest)?;
-        let rest = fixed(0x0B, rest)?;
-        Ok((GlobalVar { ty, mutable, value }, rest))
+    fn read(alloc: Global, cursor: &mut Cursor<'_>) -> Result<GlobalVar, ReadFail> {
+        let ty = ValType::read(alloc, cursor)?;
+        let mutable = mutable(cursor)?;
+        let value = constant(cursor)?;
+        cursor.fixed(0x0B)?;
+        Ok(GlobalVar { ty, mutable, value })
     }
 }
 
-impl Part for Segment {
+impl Decode for Segment {
     ghost reads = { segment_at };
 
     #[tactic(auto, unfolding(crate::specs::Reading::segment_at))]
-    fn read(alloc: Global, bytes: &[u8]) -> Result<(Segment, &[u8]), ReadFail> {
-        let (memory, rest) = index(bytes)?;
-        let rest = fixed(0x41, rest)?;
-        let (offset, rest) = signed32(rest)?;
-        let rest = fixed(0x0B, rest)?;
-        let (contents, rest) = text(rest)?;
-        let bytes = Items::from_slice(alloc, contents)?;
-        Ok((
-            Segment {
-                memory,
-                offset,
-                bytes,
-            },
-            rest,
-        ))
+    fn read(alloc: Global, cursor: &mut Cursor<'_>) -> Result<Segment, ReadFail> {
+        let memory = cursor.index()?;
+        cursor.fixed(0x41)?;
+        let offset = cursor.signed32()?;
+        cursor.fixed(0x0B)?;
+        let bytes = Items::from_slice(alloc, cursor.text()?)?;
+        Ok(Segment {
+            memory,
+            offset,
+            bytes,
+        })
     }
 }

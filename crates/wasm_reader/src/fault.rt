@@ -1,7 +1,6 @@
-ghost use Rattle.std.specs.Prelude.{◌≡◌, length};
-ghost use Rattle.wasm_tree.specs.declared.failure.ModuleRule.TheVariants as rule;
+ghost use Rattle.std.specs.Prelude.{◌≡◌};
 ghost use Rattle.wasm_reader.specs.declared.fault.ReadFail.TheVariants as the_fail;
-ghost use Rattle.wasm_reader.specs.Reading.{at, outside_of};
+ghost use Rattle.wasm_reader.specs.Reading.{at as fault_at, outside_of};
 
 use std::alloc::{AllocError, AllocFailed};
 use wasm_tree::ModuleRule;
@@ -36,44 +35,11 @@ impl<T: Drop> From<AllocFailed<T>> for ReadFail {
     }
 }
 
-/// Something is missing at the end.
-pub fn missing() -> ReadFail
-    ensures { result ≡ the_fail.Fault (at rule.Size 0) }
+/// The rule fails where so many bytes are left.
+pub fn at(rule: ModuleRule, left: usize) -> ReadFail
+    ensures { result ≡ the_fail.Fault (fault_at rule left) }
 {
-    ReadFail::Fault(Fault {
-        rule: ModuleRule::Size,
-        left: 0,
-    })
-}
-
-/// The number that begins where so many bytes are left is too long or out of its range.
-pub fn wrong(left: usize) -> ReadFail
-    ensures { result ≡ the_fail.Fault (at rule.Number left) }
-{
-    ReadFail::Fault(Fault {
-        rule: ModuleRule::Number,
-        left,
-    })
-}
-
-/// Another byte than these begin with is due.
-pub fn unknown(bytes: &[u8]) -> ReadFail
-    ensures { result ≡ the_fail.Fault (at rule.Opcode (length bytes.now)) }
-{
-    ReadFail::Fault(Fault {
-        rule: ModuleRule::Opcode,
-        left: bytes.len(),
-    })
-}
-
-/// Contents end before these bytes, which their stated size holds too.
-pub fn unfilled(left: &[u8]) -> ReadFail
-    ensures { result ≡ the_fail.Fault (at rule.Size (length left.now)) }
-{
-    ReadFail::Fault(Fault {
-        rule: ModuleRule::Size,
-        left: left.len(),
-    })
+    ReadFail::Fault(Fault { rule, left })
 }
 
 /// The fault counted to the end of the bytes that the contents are the front of.
@@ -82,39 +48,9 @@ pub fn outside(fail: ReadFail, contents: usize, whole: usize) -> ReadFail
 {
     match fail {
         ReadFail::NoMemory => ReadFail::NoMemory,
-        ReadFail::Fault(fault) => ReadFail::Fault(Fault {
-            rule: fault.rule,
-            left: whole.saturating_sub(contents.saturating_sub(fault.left)),
-        }),
+        ReadFail::Fault(fault) => at(
+            fault.rule,
+            whole.saturating_sub(contents.saturating_sub(fault.left)),
+        ),
     }
-}
-
-/// A name's bytes are no UTF-8 from the byte on from which so many bytes are left.
-pub fn ill_formed(left: usize) -> ReadFail
-    ensures { result ≡ the_fail.Fault (at rule.Text left) }
-{
-    ReadFail::Fault(Fault {
-        rule: ModuleRule::Text,
-        left,
-    })
-}
-
-/// The section that begins here isn't of the subset, or comes twice or out of order.
-pub fn misplaced(bytes: &[u8]) -> ReadFail
-    ensures { result ≡ the_fail.Fault (at rule.Section (length bytes.now)) }
-{
-    ReadFail::Fault(Fault {
-        rule: ModuleRule::Section,
-        left: bytes.len(),
-    })
-}
-
-/// What begins here passes a limit.
-pub fn beyond(bytes: &[u8]) -> ReadFail
-    ensures { result ≡ the_fail.Fault (at rule.Limit (length bytes.now)) }
-{
-    ReadFail::Fault(Fault {
-        rule: ModuleRule::Limit,
-        left: bytes.len(),
-    })
 }

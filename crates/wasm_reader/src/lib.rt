@@ -8,19 +8,18 @@
 #![tactic(auto)]
 
 mod code;
+mod cursor;
+mod decode;
 mod entries;
 mod fault;
-mod form;
 mod instr;
 mod locals;
-mod number;
-mod opcodes;
-mod part;
+mod name;
+mod opcode;
 mod reader;
 mod section;
-mod text;
 
-pub use reader::read_module;
+pub use reader::{read_module, spelled_once};
 
 #[cfg(test)]
 mod tests;

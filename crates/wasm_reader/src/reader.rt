@@ -1,154 +1,77 @@
-ghost use Rattle.std.specs.Prelude.{◌≡◌, Ok, IfOk, IfErr, MatchResult};
+ghost use Rattle.std.specs.Prelude.{◌≡◌, ◌++◌, ℕ, List, Ok, IfOk, IfErr, MatchResult};
 ghost use Rattle.wasm_tree.specs.Spelled.{Spelled};
 ghost use Rattle.wasm_tree.specs.declared.failure.ModuleFail.TheVariants.{NoMemory as LacksMemory};
 ghost use Rattle.wasm_tree.specs.declared.module.Module.{Module as TheModule};
 ghost use Rattle.wasm_reader.specs.Fault.{IsCause};
-ghost use Rattle.wasm_reader.specs.Reading.{Gives, header_byte_at, header_at, head_at, tail_at, whole_of, module_at};
+ghost use Rattle.wasm_reader.specs.Reading.{Gives, header_byte_at, header_at, module_at};
 
-use crate::fault::{Fault, ReadFail, misplaced, missing};
+use crate::cursor::Cursor;
+use crate::fault::{ReadFail, at};
 use crate::section::{Found, customs, section};
 use cm_base::Items;
 use std::alloc::Global;
 use wasm_tree::{
-    ExportEntry, Exports, FuncBodies, FuncBody, FuncType, FuncTypes, GlobalVar, Globals, Import,
-    Imports, Indices, Limits, Memories, Module, ModuleFail, ModuleRefused, ModuleRule, Segment,
-    Segments,
+    Customs, ExportEntry, FuncBody, FuncType, GlobalVar, HEADER, Import, Limits, Module,
+    ModuleFail, ModuleRefused, ModuleRule, Segment,
 };
 
-/// The bytes that a module begins with: `\0asm`, and version 1.
-const HEADER: [u8; 8] = [0x00, 0x61, 0x73, 0x6D, 0x01, 0x00, 0x00, 0x00];
-
-/// The bytes after this one, which is the header's.
-#[tactic(auto, unfolding(crate::specs::Reading::header_byte_at))]
-fn header_byte(due: u8, bytes: &[u8]) -> Result<&[u8], ReadFail>
-    ensures { Gives (λ rest. rest.now) result (header_byte_at due bytes.now) }
+/// Takes this byte, which is the header's.
+#[tactic(auto, unfolding(crate::specs::Reading::header_byte_at, crate::specs::Reading::behind_id))]
+fn header_byte(due: u8, cursor: &mut Cursor<'_>) -> Result<(), ReadFail>
+    ensures { Gives (λ _. cursor.new) result (header_byte_at due cursor.old) }
 {
-    if let Some((first, rest)) = bytes.split_first() {
-        if *first == due {
-            return Ok(rest);
-        }
+    if cursor.accept(due) {
+        return Ok(());
     }
-    Err(ReadFail::Fault(Fault {
-        rule: ModuleRule::Header,
-        left: bytes.len(),
-    }))
+    Err(at(ModuleRule::Header, cursor.left()))
 }
 
-/// The bytes after the header.
-fn header(bytes: &[u8]) -> Result<&[u8], ReadFail>
-    ensures { Gives (λ rest. rest.now) result (header_at HEADER bytes.now) }
+/// Takes the header.
+fn header(cursor: &mut Cursor<'_>) -> Result<(), ReadFail>
+    ensures { Gives (λ _. cursor.new) result (header_at HEADER cursor.old) }
 {
-    let mut rest = bytes;
     for due in HEADER {
-        rest = header_byte(due, rest)?;
+        header_byte(due, cursor)?;
     }
-    Ok(rest)
+    Ok(())
 }
 
-/// What the sections up to the memories list.
-#[derive(Debug, Drop)]
-struct FirstParts {
-    types: FuncTypes,
-    imports: Imports,
-    functions: Indices,
-    memory: Memories,
-}
-
-/// What the sections from the globals on list.
-#[derive(Debug, Drop)]
-struct LastParts {
-    globals: Globals,
-    exports: Exports,
-    codes: FuncBodies,
-    segments: Segments,
-}
-
-#[tactic(auto, unfolding(crate::specs::Reading::head_at))]
-fn head<'a>(
-    alloc: Global,
-    found: &mut Found,
-    bytes: &'a [u8],
-) -> Result<(FirstParts, &'a [u8]), ReadFail>
-    ensures { Gives (λ x. ((x.0, found.new), x.1.now)) result (head_at found.old bytes.now) }
+/// The custom sections, those named `cmajor` last.
+fn sorted(found: Found) -> Result<Customs, ReadFail>
+    ensures { Gives (λ customs. customs) result (Ok (found.others ++ found.named)) }
 {
-    let (types, rest) = section::<FuncType>(alloc, 1, found, bytes)?;
-    let (imports, rest) = section::<Import>(alloc, 2, found, rest)?;
-    let (functions, rest) = section::<u32>(alloc, 3, found, rest)?;
-    let (memory, rest) = section::<Limits>(alloc, 5, found, rest)?;
-    Ok((
-        FirstParts {
-            types,
-            imports,
-            functions,
-            memory,
-        },
-        rest,
-    ))
+    let Found { others, named } = found;
+    let mut customs = others;
+    customs.append(named)?;
+    Ok(customs)
 }
 
-#[tactic(auto, unfolding(crate::specs::Reading::tail_at))]
-fn tail<'a>(
-    alloc: Global,
-    found: &mut Found,
-    bytes: &'a [u8],
-) -> Result<(LastParts, &'a [u8]), ReadFail>
-    ensures { Gives (λ x. ((x.0, found.new), x.1.now)) result (tail_at found.old bytes.now) }
-{
-    let (globals, rest) = section::<GlobalVar>(alloc, 6, found, bytes)?;
-    let (exports, rest) = section::<ExportEntry>(alloc, 7, found, rest)?;
-    let (codes, rest) = section::<FuncBody>(alloc, 10, found, rest)?;
-    let (segments, rest) = section::<Segment>(alloc, 11, found, rest)?;
-    Ok((
-        LastParts {
-            globals,
-            exports,
-            codes,
-            segments,
-        },
-        rest,
-    ))
-}
-
-#[tactic(auto, unfolding(crate::specs::Reading::module_at))]
+#[tactic(auto, unfolding(crate::specs::Reading::module_at, crate::specs::Reading::head_at, crate::specs::Reading::tail_at))]
 fn module(alloc: Global, bytes: &[u8]) -> Result<Module, ReadFail>
     ensures { Gives (λ m. m) result (module_at bytes.now) }
 {
-    let rest = header(bytes)?;
+    let mut cursor = Cursor::new(bytes);
+    header(&mut cursor)?;
     let mut found = Found {
         others: Items::new(alloc),
         named: Items::new(alloc),
     };
-    let (head, rest) = head(alloc, &mut found, rest)?;
-    let (tail, rest) = tail(alloc, &mut found, rest)?;
-    let rest = customs(alloc, &mut found, rest)?;
-    if !rest.is_empty() {
-        return Err(misplaced(rest));
+    let types = section::<FuncType>(alloc, &mut found, &mut cursor)?;
+    let imports = section::<Import>(alloc, &mut found, &mut cursor)?;
+    let functions = section::<u32>(alloc, &mut found, &mut cursor)?;
+    let memory = section::<Limits>(alloc, &mut found, &mut cursor)?;
+    let globals = section::<GlobalVar>(alloc, &mut found, &mut cursor)?;
+    let exports = section::<ExportEntry>(alloc, &mut found, &mut cursor)?;
+    let codes = section::<FuncBody>(alloc, &mut found, &mut cursor)?;
+    let segments = section::<Segment>(alloc, &mut found, &mut cursor)?;
+    customs(alloc, &mut found, &mut cursor)?;
+    if cursor.left() > 0 {
+        return Err(at(ModuleRule::Section, cursor.left()));
     }
-    if head.functions.len() != tail.codes.len() {
-        return Err(missing());
+    if functions.len() != codes.len() {
+        return Err(at(ModuleRule::Size, 0));
     }
-    whole(head, tail, found)
-}
-
-/// The module of these parts.
-fn whole(head: FirstParts, tail: LastParts, found: Found) -> Result<Module, ReadFail>
-    ensures { Gives (λ m. m) result (Ok (whole_of head tail found)) }
-{
-    let FirstParts {
-        types,
-        imports,
-        functions,
-        memory,
-    } = head;
-    let LastParts {
-        globals,
-        exports,
-        codes,
-        segments,
-    } = tail;
-    let Found { others, named } = found;
-    let mut customs = others;
-    customs.append(named)?;
+    let customs = sorted(found)?;
     Ok(Module {
         types,
         imports,
@@ -163,11 +86,13 @@ fn whole(head: FirstParts, tail: LastParts, found: Found) -> Result<Module, Read
 }
 
 /// The module that the bytes spell (Core Specification 1.0, chapter 5, in the subset of docs/MODULE.md), or
-/// the first rule that fails, and the byte at which it does. It takes no more memory than what was read.
+/// the first rule that fails, and the byte at which it does. No list is reserved by a count that the bytes state:
+/// each element takes a byte at least, and lists grow by doubling, so that memory is bound by the bytes. Code takes
+/// 16 bytes for an instruction, at most 32 for a byte of it once its list has grown.
 pub fn read_module(alloc: Global, bytes: &[u8]) -> Result<Module, ModuleFail>
     // What is read is spelled by the bytes, all of them.
     ensures found { IfOk result (λ m. Spelled bytes.now m) }
-    // What is spelled is read, unless memory runs out. So bytes spell one module at most.
+    // What is spelled is read, unless memory runs out.
     ensures only { (m : TheModule) → Spelled bytes.now m → MatchResult result (λ read. read ≡ m) (λ e. e ≡ LacksMemory) }
     // The parts before the offset are spelled, one after another, and the rule fails there.
     ensures refused { IfErr result (λ fail. IsCause fail bytes.now) }
@@ -181,3 +106,8 @@ pub fn read_module(alloc: Global, bytes: &[u8]) -> Result<Module, ModuleFail>
         })),
     }
 }
+
+/// Bytes spell at most one module.
+pub fn spelled_once()
+    ensures { (bytes : List ℕ) (m n : TheModule) → Spelled bytes m → Spelled bytes n → m ≡ n }
+{}

@@ -6,6 +6,6 @@ use Rattle.wasm_reader.proofs.locals.runs.Given as goal
 
 abbrev pub invariant-loop : goal.invariant-loop
 invariant-loop l = record {
-  read : with_front l.runs (runs_from (l.count - l.counter) l.before l.rest) ≡ runs_from l.count 0 l.bytes;
+  read : with_front l.runs (runs_from (l.count - l.counter) l.before l.cursor) ≡ runs_from l.count 0 l.fn.cursor;
   few : l.before ≤ most_locals;
 }

@@ -1,8 +1,7 @@
 use Rattle.std.proofs.Common.{◌≡◌, ◌∙◌, sym, Err}
 use Rattle.wasm_reader.specs.Reading.{module_at}
 use Rattle.wasm_reader.proofs.Steps.{ok_is}
-use Rattle.wasm_reader.proofs.ModuleLaws.{module-found, module-again}
-use Rattle.wasm_reader.proofs.ModuleFaults.{fails-at}
+use Rattle.wasm_reader.proofs.ModuleLaws.{module-found, module-again, fails-at}
 use Rattle.wasm_reader.proofs.reader.read_module.Goals as goal
 
 pub returns-in-Ok-clause-found : goal.returns-in-Ok-clause-found

@@ -1,7 +1,0 @@
-use Rattle.std.proofs.Common.{◌≡◌, ◌-◌}
-use Rattle.wasm_reader.specs.Reading.{each_at}
-use Rattle.wasm_reader.proofs.Steps.{with_front}
-use Rattle.wasm_reader.proofs.part.each.Given as goal
-
-abbrev pub invariant-loop : goal.invariant-loop
-invariant-loop g l = with_front l.items (each_at g.T.Part.reads (l.count - l.counter) l.rest) ≡ each_at g.T.Part.reads l.count l.bytes

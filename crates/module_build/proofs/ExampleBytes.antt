@@ -6,7 +6,7 @@ use Rattle.cm_base.specs.declared.host.Flow.TheVariants.{Input, Output}
 use Rattle.cm_base.specs.declared.host.Scalar.TheVariants.{Int32}
 use Rattle.cm_tree.specs.Through.{host_stream}
 use Rattle.wasm_tree.specs.Section.{Runs, Spelled_slot, Spelled_section}
-use Rattle.wasm_tree.specs.Spelled.{Joined, Is, Begins, Each, Index, Signed, Vector, Text, Name, Type_of_function, Imported, Memory, Exported, Body, LocalRuns, Expression, Custom_contents, CustomsAre, Raw, Section, InOrder, header, Spelled}
+use Rattle.wasm_tree.specs.Spelled.{Joined, Is, Begins, Each, Index, Signed, Vector, Text, Utf8Text, Type_of_function, Imported, Memory, Exported, Body, LocalRuns, Expression, Custom_contents, CustomsAre, Raw, RawSection, InOrder, header, Spelled}
 use Rattle.wasm_tree.specs.Valid.{emit_type, no_type}
 use Rattle.wasm_writer.specs.Spelling.{spelling, unsigned_bytes, unsigned_within, signed_bytes, signed_within}
 use Rattle.module_build.specs.Example.{example_section, example_bytes}
@@ -27,10 +27,10 @@ index n few = (few, omega arith, refl)
 text : (s : List ℕ) → length s < 128 → Text s (length s ∷ s)
 text s few = joined (length s ∷ []) s (index (length s) few) refl
 
-name : (s : List ℕ) → length s < 128 → IsUtf8 s → Name s (length s ∷ s)
+name : (s : List ℕ) → length s < 128 → IsUtf8 s → Utf8Text s (length s ∷ s)
 name s few utf8 = record { spelled = text s few; utf8 = utf8 }
 
-section : (id : ℕ) (contents : List ℕ) → length contents < 128 → Section (record { id = id; contents = contents }) (id ∷ length contents ∷ contents)
+section : (id : ℕ) (contents : List ℕ) → length contents < 128 → RawSection (record { id = id; contents = contents }) (id ∷ length contents ∷ contents)
 section id contents few = begins id (length contents ∷ contents) (text contents few)
 
 zero_bits : Signed 32 (pos 0) (0x00 ∷ [])
@@ -110,7 +110,7 @@ init_spelled : Body (body_of init_code) (0x02 ∷ 0x00 ∷ 0x0B ∷ [])
 init_spelled = (
   0x00 ∷ 0x0B ∷ [],
   text (0x00 ∷ 0x0B ∷ []) (lit< tt),
-  joined (0x00 ∷ []) (0x0B ∷ []) no_locals (record { spelled = joined (0x0B ∷ []) [] refl refl; closed = refl }),
+  joined (0x00 ∷ []) (0x0B ∷ []) no_locals (record { spelled = joined (0x0B ∷ []) [] (begins 0x0B [] refl) refl; closed = refl }),
 )
 
 frame_contents : List ℕ
@@ -126,7 +126,7 @@ frame_expression = record {
       (begins 0x28 (0x02 ∷ 0x00 ∷ []) (joined (0x02 ∷ []) (0x00 ∷ []) (index 2 (lit< tt)) (index 0 (lit< tt))))
       (joined (0x36 ∷ 0x02 ∷ 0x04 ∷ []) (0x0B ∷ [])
       (begins 0x36 (0x02 ∷ 0x04 ∷ []) (joined (0x02 ∷ []) (0x04 ∷ []) (index 2 (lit< tt)) (index 4 (lit< tt))))
-      (joined (0x0B ∷ []) [] refl refl))));
+      (joined (0x0B ∷ []) [] (begins 0x0B [] refl) refl))));
   closed = refl;
 }
 
@@ -205,12 +205,12 @@ AreShort : List Raw → Type 0
 AreShort [] = Unit {0}
 AreShort (raw ∷ raws) = (length raw.contents < 128) × AreShort raws
 
-sections : (raws : List Raw) → AreShort raws → Each Section raws (bytes_of raws)
+sections : (raws : List Raw) → AreShort raws → Each RawSection raws (bytes_of raws)
 unfolding bytes_of AreShort
 sections [] few = refl
 sections (raw ∷ raws) few = joined (raw.id ∷ length raw.contents ∷ raw.contents) (bytes_of raws) (section raw.id raw.contents few.0) (sections raws few.1)
 
-sections_spelled : Joined (Is header) (Each Section example_raws) example_bytes
+sections_spelled : Joined (Is header) (Each RawSection example_raws) example_bytes
 unfolding example_raws raw bytes_of AreShort types_contents imports_contents functions_contents memory_contents exports_contents codes_contents frame_contents custom_contents
 sections_spelled =
     joined header (bytes_of example_raws) refl

@@ -1,8 +1,7 @@
-pub mod EndedParts
 pub mod ExampleBytes
+pub mod PatchGrows
 pub mod Source
 pub mod Target
-pub mod Tasks
+pub mod ThroughBuild
 pub mod ThroughKeeps
 pub mod ThroughValid
-pub mod ThroughBuild

@@ -1,18 +1,20 @@
 -- What the patch that passes its input through does in a frame.
-use Rattle.std.proofs.Common.{◌≡◌, ℕ, zero, suc, ◌+◌, List, [], ◌∷◌, ◌++◌, Bool, true, false, refl, sym, ◌∙◌, ap, ℤ, pos, ◌+ℤ◌, arith, ◌⊎◌, inl, inr, append_assoc, append-nil}
+use Rattle.std.proofs.Common.{◌≡◌, ℕ, suc, List, [], ◌∷◌, ◌++◌, Bool, true, false, refl, ◌∙◌, ap, ℤ, pos, ◌+ℤ◌, arith, ◌⊎◌, inl, inr}
 use Rattle.std.specs.Prelude.{FitsSigned}
 use Rattle.std.specs.Int.{w32}
 use Rattle.std.proofs.lemmas.Bool.{eq-eqb}
 use Rattle.std.proofs.lemmas.Bool.Decides.{eqb_tells}
 use Rattle.std.proofs.lemmas.Int.{ints}
-use Rattle.cm_base.specs.Parts.{Inputs, Part, Frame, Task, Begin, Goes, Spent, Player, Ended, Out, Outcome, play, settle, following, is_name}
 use Rattle.cm_base.specs.declared.play.Item.{Item}
 use Rattle.cm_base.specs.declared.play.Item.TheVariants as item
+use Rattle.cm_base.specs.Parts.{Inputs, Frame, is_name}
+use Rattle.cm_base.specs.Players.{Goes, Spent}
+use Rattle.cm_base.specs.Tasks.{AreInputs}
 use Rattle.cm_number.specs.Conversion.{to_signed}
-use Rattle.cm_number.proofs.Conversions.{to_signed_fits}
+use Rattle.cm_number.proofs.Public.{to_signed_fits}
 use Rattle.cm_tree.specs.Patch.{Stmt, Block, Write, Advance, More, End, Read}
 use Rattle.cm_tree.specs.Resume.{Todo, Do, Again, Leaf}
-use Rattle.cm_tree.specs.Run.{World, patch_part, patch_player}
+use Rattle.cm_tree.specs.Run.{World, patch_part}
 use Rattle.cm_tree.specs.Through.{through_patch, through_main}
 
 -- ---- names
@@ -83,60 +85,30 @@ pub next_step : (input output : List ℕ) → (input ≡ output → ⊥) → Ste
 next_step input output ne v frame turns inputs current first second trace fits =
     rw (is_name-refl input, is_name-distinct input output ne, is_name-refl output, plus_zero v fits) (rw (zero_plus v fits) (rw (plus_zero v fits) refl))
 
--- ---- whole runs
+-- ---- a frame of any rest
 
--- the frames from one on, with what the input carries in each
-abbrev pub frames_of : (ℕ → ℤ) → ℕ → ℕ → List Task
-frames_of value frame zero = []
-frames_of value frame (suc count) = Begin (Frame frame (frame_inputs (value frame))) ∷ frames_of value (frame + 1) count
+-- the input of a frame is one int32
+pub inputs_form : (input output : List ℕ) (inputs : Inputs) → AreInputs (through_patch input output).host inputs → (v : ℤ) × (inputs ≡ frame_inputs v) × FitsSigned w32 v
+inputs_form input output [] are = absurd are
+inputs_form input output ([] ∷ others) are = absurd are.0
+inputs_form input output ((v ∷ []) ∷ []) are = absurd are.2
+inputs_form input output ((v ∷ []) ∷ second ∷ others) are =
+    (v, ap (λ o. (v ∷ []) ∷ o) (ap (λ x. x ∷ others) are.2.1 ∙ ap (λ o. [] ∷ o) are.2.2), are.0.0)
+inputs_form input output ((v ∷ w ∷ more) ∷ others) are = absurd are.0.1
 
--- what they tell
-abbrev pub told_of : (ℕ → ℤ) → ℕ → ℕ → List Item
-told_of value frame zero = []
-told_of value frame (suc count) = item.Frame frame (value frame ∷ []) ∷ told_of value (frame + 1) count
+-- with a turn it tells the input
+pub source_goes : (input output : List ℕ) → (input ≡ output → ⊥) → (rest : List Todo) → IsReady input output rest → (v : ℤ) (frame turns : ℕ) (inputs current first second : List (List ℤ)) (trace : List Item) → FitsSigned w32 v →
+    patch_part (through_patch input output) (suc turns) (Frame frame (frame_inputs v)) (world_with rest inputs current first second trace)
+    ≡ Goes (world_with (Again (body_of input output) ∷ []) ((v ∷ []) ∷ [] ∷ []) current ((v ∷ []) ∷ first) ((v ∷ []) ∷ second) (trace ++ item.Frame frame (v ∷ []) ∷ []))
+source_goes input output ne rest (inl is) v frame turns inputs current first second trace fits =
+    ap (λ r. patch_part (through_patch input output) (suc turns) (Frame frame (frame_inputs v)) (world_with r inputs current first second trace)) is ∙ first_step input output ne v frame turns inputs current first second trace fits
+source_goes input output ne rest (inr is) v frame turns inputs current first second trace fits =
+    ap (λ r. patch_part (through_patch input output) (suc turns) (Frame frame (frame_inputs v)) (world_with r inputs current first second trace)) is ∙ next_step input output ne v frame turns inputs current first second trace fits
 
-abbrev pub ended_with : List Item → Outcome
-ended_with trace = record { trace = trace; ending = Ended }
-
--- one task of a run that goes on
-pub play-goes : {World : Type 0} (player : Player World) (part : Part) (tasks : List Task) (world next : World) → player.perform part (following tasks) world ≡ Goes next →
-    play player (Begin part ∷ tasks) world ≡ play player tasks next
-unfolding play
-play-goes player part tasks world next e = ap (λ left. settle player.told part left (play player tasks)) e
-
-pub play-spent : {World : Type 0} (player : Player World) (part : Part) (tasks : List Task) (world next : World) → player.perform part (following tasks) world ≡ Spent next →
-    play player (Begin part ∷ tasks) world ≡ record { trace = player.told next; ending = Out part }
-unfolding play
-play-spent player part tasks world next e = ap (λ left. settle player.told part left (play player tasks)) e
-
-pub play-done : {World : Type 0} (player : Player World) (world : World) → play player [] world ≡ record { trace = player.told world; ending = Ended }
-unfolding play
-play-done player world = refl
-
--- each value that the input carries is an int32
-abbrev pub AreInt32 : (ℕ → ℤ) → Type 0
-AreInt32 value = (frame : ℕ) → FitsSigned w32 (value frame)
-
-abbrev pub RunsOn : List ℕ → List ℕ → ℕ → List Todo → Type 0
-RunsOn input output turns rest = (value : ℕ → ℤ) (count frame : ℕ) (inputs current first second : List (List ℤ)) (trace : List Item) → AreInt32 value →
-    play (patch_player (through_patch input output) (suc turns)) (frames_of value frame count) (world_with rest inputs current first second trace)
-    ≡ ended_with (trace ++ told_of value frame count)
-
--- with a turn or more each frame ends
-pub later_frames : (input output : List ℕ) → (input ≡ output → ⊥) → (turns : ℕ) → RunsOn input output turns (Again (body_of input output) ∷ [])
-later_frames input output ne turns value zero frame inputs current first second trace fits =
-    play-done (patch_player (through_patch input output) (suc turns)) _ ∙ ap ended_with (sym (append-nil trace))
-later_frames input output ne turns value (suc count) frame inputs current first second trace fits =
-    play-goes (patch_player (through_patch input output) (suc turns)) (Frame frame (frame_inputs (value frame))) (frames_of value (frame + 1) count) _ _
-    (next_step input output ne (value frame) frame turns inputs current first second trace (fits frame))
-    ∙ (later_frames input output ne turns value count (frame + 1) _ current _ _ _ fits
-    ∙ ap ended_with (append_assoc trace (item.Frame frame (value frame ∷ []) ∷ []) (told_of value (frame + 1) count)))
-
-pub all_frames : (input output : List ℕ) → (input ≡ output → ⊥) → (turns : ℕ) → RunsOn input output turns (Do (through_main input output) ∷ [])
-all_frames input output ne turns value zero frame inputs current first second trace fits =
-    play-done (patch_player (through_patch input output) (suc turns)) _ ∙ ap ended_with (sym (append-nil trace))
-all_frames input output ne turns value (suc count) frame inputs current first second trace fits =
-    play-goes (patch_player (through_patch input output) (suc turns)) (Frame frame (frame_inputs (value frame))) (frames_of value (frame + 1) count) _ _
-    (first_step input output ne (value frame) frame turns inputs current first second trace (fits frame))
-    ∙ (later_frames input output ne turns value count (frame + 1) _ current _ _ _ fits
-    ∙ ap ended_with (append_assoc trace (item.Frame frame (value frame ∷ []) ∷ []) (told_of value (frame + 1) count)))
+-- and without one it is spent
+pub source_spent : (input output : List ℕ) (rest : List Todo) → IsReady input output rest → (v : ℤ) (frame : ℕ) (inputs current first second : List (List ℤ)) (trace : List Item) →
+    (stop : World) × (patch_part (through_patch input output) 0 (Frame frame (frame_inputs v)) (world_with rest inputs current first second trace) ≡ Spent stop) × (stop.trace ≡ trace)
+source_spent input output rest (inl is) v frame inputs current first second trace =
+    (_, ap (λ r. patch_part (through_patch input output) 0 (Frame frame (frame_inputs v)) (world_with r inputs current first second trace)) is, refl)
+source_spent input output rest (inr is) v frame inputs current first second trace =
+    (_, ap (λ r. patch_part (through_patch input output) 0 (Frame frame (frame_inputs v)) (world_with r inputs current first second trace)) is, refl)

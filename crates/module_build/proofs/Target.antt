@@ -1,57 +1,44 @@
 -- What the module that passes its input through does in a frame.
-use Rattle.std.proofs.Common.{◌≡◌, ℕ, zero, suc, ◌+◌, ◌<◌, ◌≤◌, ◌^◌, ◌%◌, List, [], ◌∷◌, ◌++◌, length, true, refl, sym, ◌∙◌, ap, subst, ℤ, arith, None, nat_le, append_assoc, append-nil, ◌/◌}
-use Rattle.std.proofs.lemmas.Bool.{le-leb}
-use Rattle.std.proofs.lemmas.Nat.{from_le_bytes-to_le_bytes_4}
-use Rattle.std.proofs.lemmas.Int.{to_z-of_z}
-use Rattle.std.proofs.Math.Nat.{mod-eq_of_lt}
-use Rattle.std.specs.Prelude.{FitsSigned}
+use Rattle.std.proofs.Common.{◌≡◌, ℕ, ◌<◌, ◌≤◌, ◌^◌, ◌%◌, ◌/◌, List, [], ◌∷◌, ◌++◌, length, true, nat_le, refl, sym, ◌∙◌, ap, ℤ, pos, arith, append-nil}
+use Rattle.std.specs.Prelude.{FitsSigned, codes}
 use Rattle.std.specs.Int.{w32, cast_unsigned, to_le_bytes}
-use Rattle.cm_base.specs.Parts.{Inputs, Part, Init, Frame, Goes, Spent, Left, Player, play, following}
+use Rattle.std.proofs.lemmas.Bool.{le-leb}
+use Rattle.std.proofs.lemmas.Int.{to_z-of_z}
+use Rattle.std.proofs.lemmas.Nat.{from_le_bytes-to_le_bytes_4}
+use Rattle.std.proofs.Math.Nat.{mod-eq_of_lt}
 use Rattle.cm_base.specs.declared.play.Item.{Item}
 use Rattle.cm_base.specs.declared.play.Item.TheVariants as item
-use Rattle.cm_number.proofs.Conversions.{to_signed_fits, cast_unsigned-lt}
-use Rattle.wasm_tree.specs.Reduce.{pieces, plain, act, exec}
-use Rattle.wasm_tree.specs.HostRun.{Instance, heard, module_part, module_player, single_frame}
-use Rattle.module_build.specs.Through.{through_module, through_section}
-use Rattle.module_build.proofs.Source.{frame_inputs, frames_of, told_of, ended_with, AreInt32, play-goes, play-done}
+use Rattle.cm_number.proofs.Public.{to_signed_fits, cast_unsigned-lt}
+use Rattle.cm_tree.specs.Resume.{Todo}
+use Rattle.cm_tree.specs.Run.{World}
+use Rattle.wasm_tree.specs.declared.instr.Instr.TheVariants as instr
+use Rattle.wasm_tree.specs.declared.op.LoadOp.TheVariants as load
+use Rattle.wasm_tree.specs.declared.op.StoreOp.TheVariants as store
+use Rattle.wasm_tree.specs.HostRun.{frame_told}
+use Rattle.wasm_tree.specs.Instance.{call_of, funcs_of}
+use Rattle.wasm_tree.specs.Meaning.{loaded, stored}
+use Rattle.wasm_tree.specs.Reduce.{Nil, Plain, at, pieces, plain, act}
+use Rattle.wasm_tree.specs.Slots.{outputs_at, write_inputs}
+use Rattle.wasm_steps.proofs.Compose.{one, andthen}
+use Rattle.wasm_runs.specs.Calling.{CallEnds, CallReturns}
+use Rattle.module_build.specs.Through.{through_module, through_slots, word_at}
+use Rattle.module_build.proofs.Source.{frame_inputs, IsReady, world_with}
 
-abbrev pub instance_with : List ℕ → List (List ℤ) → List Item → Instance
-instance_with memory current trace = record { globals = []; memory = memory; current = current; block = None; trace = trace }
+-- the current values of the two endpoints, which are never set
+abbrev pub no_current : List (List ℤ)
+no_current = (pos 0 ∷ []) ∷ (pos 0 ∷ []) ∷ []
 
--- eight bytes and more have room for four, and for four after the first four
-long : (n : ℕ) (a b c d e f g h : ℕ) (rest : List ℕ) → n ≤ 8 → nat_le n (length (a ∷ b ∷ c ∷ d ∷ e ∷ f ∷ g ∷ h ∷ rest)) ≡ true
-long n a b c d e f g h rest few = le-leb _ _ (omega arith)
-
-frame_goes : (described input output : List ℕ) (v : ℤ) (frame steps : ℕ) (b0 b1 b2 b3 b4 b5 b6 b7 : ℕ) (rest : List ℕ) (current : List (List ℤ)) (trace : List Item) → FitsSigned w32 v →
-    single_frame (through_module described) (through_section input output) (suc (suc (suc steps))) frame (frame_inputs v)
-    (instance_with (b0 ∷ b1 ∷ b2 ∷ b3 ∷ b4 ∷ b5 ∷ b6 ∷ b7 ∷ rest) current trace)
-    ≡ Goes (instance_with (to_le_bytes w32 (cast_unsigned w32 v) ++ to_le_bytes w32 (cast_unsigned w32 v) ++ rest) current (trace ++ item.Frame frame (v ∷ []) ∷ []))
-unfolding pieces plain act exec heard
-frame_goes described input output v frame steps b0 b1 b2 b3 b4 b5 b6 b7 rest current trace fits =
-    let u = cast_unsigned w32 v in
-    let first = long 4 (u % 256) (u / 256 % 256) (u / 65536 % 256) (u / 16777216 % 256) b4 b5 b6 b7 rest (omega arith) in
-    let second = long 8 (u % 256) (u / 256 % 256) (u / 65536 % 256) (u / 16777216 % 256) b4 b5 b6 b7 rest (omega arith) in
-    let below : u < 2 ^ 32 = cast_unsigned-lt w32 v fits in
-    let read = from_le_bytes-to_le_bytes_4 u below in
-    let same : u % 2 ^ 32 ≡ u = mod-eq_of_lt below in
-    let back = to_z-of_z w32 v fits in
-    rw first (rw second (rw read (rw same (rw read (rw back (rw (to_signed_fits w32 v fits) refl))))))
-
--- ---- parts
-
-abbrev pub part_of : List ℕ → List ℕ → List ℕ → ℕ → Part → Instance → Left Instance
-part_of described input output steps part instance = module_part (through_module described) (through_section input output) steps part [] instance
-
--- `init` is one reduction and changes nothing
-pub init_goes : (described input output : List ℕ) (steps : ℕ) (coming : List Inputs) (memory : List ℕ) (current : List (List ℤ)) (trace : List Item) →
-    module_part (through_module described) (through_section input output) (suc steps) Init coming (instance_with memory current trace) ≡ Goes (instance_with memory current trace)
-unfolding pieces plain act exec heard
-init_goes described input output steps coming memory current trace = refl
-
-pub init_spent : (described input output : List ℕ) (coming : List Inputs) (memory : List ℕ) (current : List (List ℤ)) (trace : List Item) →
-    module_part (through_module described) (through_section input output) 0 Init coming (instance_with memory current trace) ≡ Spent (instance_with memory current trace)
-unfolding pieces plain act exec heard
-init_spent described input output coming memory current trace = refl
+-- between two calls: the leaf is at its loop, and the memory has both slots
+pub record Kept (input output : List ℕ) (world : World) (current : List (List ℤ)) (globals memory : List ℕ) : Type 0 where
+  pub rest : List Todo
+  pub ready : IsReady input output rest
+  pub inputs : List (List ℤ)
+  pub first : List (List ℤ)
+  pub second : List (List ℤ)
+  pub is : world ≡ world_with rest inputs world.current first second world.trace
+  pub room : 8 ≤ length memory
+  pub no_globals : globals ≡ []
+  pub still : current ≡ no_current
 
 -- a memory of eight bytes and more
 pub record Eight (memory : List ℕ) : Type 0 where
@@ -78,82 +65,51 @@ eight (a ∷ b ∷ c ∷ d ∷ e ∷ f ∷ g ∷ []) h = absurd (omega arith)
 eight (a ∷ b ∷ c ∷ d ∷ e ∷ f ∷ g ∷ i ∷ rest) h =
     record { b0 = a; b1 = b; b2 = c; b3 = d; b4 = e; b5 = f; b6 = g; b7 = i; rest = rest; is = refl }
 
+-- eight bytes and more have room for four, and for four after the first four
+long : (n : ℕ) (a b c d e f g h : ℕ) (rest : List ℕ) → n ≤ 8 → nat_le n (length (a ∷ b ∷ c ∷ d ∷ e ∷ f ∷ g ∷ h ∷ rest)) ≡ true
+long n a b c d e f g h rest few = le-leb _ _ (omega arith)
+
 -- the memory after a frame
-abbrev pub after_frame : ℤ → List ℕ → List ℕ
-after_frame v rest = to_le_bytes w32 (cast_unsigned w32 v) ++ to_le_bytes w32 (cast_unsigned w32 v) ++ rest
+abbrev after_frame : ℤ → List ℕ → List ℕ
+after_frame v rest = let bytes = to_le_bytes w32 (cast_unsigned w32 v) in bytes ++ (stored store.I32 (loaded load.I32 bytes) ++ rest)
 
--- with three reductions a frame tells its input
-pub record FrameGoes (described input output : List ℕ) (v : ℤ) (frame steps : ℕ) (coming : List Inputs) (memory : List ℕ) (current : List (List ℤ)) (trace : List Item) : Type 0 where
-  pub after : List ℕ
-  pub long_enough : 8 ≤ length after
-  pub goes : module_part (through_module described) (through_section input output) (suc (suc (suc steps))) (Frame frame (frame_inputs v)) coming (instance_with memory current trace)
-      ≡ Goes (instance_with after current (trace ++ item.Frame frame (v ∷ []) ∷ []))
-
-pub frame_part_goes : (described input output : List ℕ) (v : ℤ) (frame steps : ℕ) (coming : List Inputs) (memory : List ℕ) (current : List (List ℤ)) (trace : List Item) →
-    FitsSigned w32 v → 8 ≤ length memory → FrameGoes described input output v frame steps coming memory current trace
-frame_part_goes described input output v frame steps coming memory current trace fits enough =
-    let e = eight memory enough in
-    record {
-      after = after_frame v e.rest;
-      long_enough = omega arith;
-      goes = subst
-          (λ (bytes : List ℕ). single_frame (through_module described) (through_section input output) (suc (suc (suc steps))) frame (frame_inputs v) (instance_with bytes current trace)
-          ≡ Goes (instance_with (after_frame v e.rest) current (trace ++ item.Frame frame (v ∷ []) ∷ [])))
-          (sym e.is) (frame_goes described input output v frame steps e.b0 e.b1 e.b2 e.b3 e.b4 e.b5 e.b6 e.b7 e.rest current trace fits);
-    }
-
--- with one or two reductions it is spent, and nothing is told
-abbrev pub IsSpent : List ℕ → List ℕ → List ℕ → ℕ → Type 0
-IsSpent described input output steps = (v : ℤ) (frame : ℕ) (coming : List Inputs) (memory : List ℕ) (current : List (List ℤ)) (trace : List Item) → 8 ≤ length memory →
-    module_part (through_module described) (through_section input output) steps (Frame frame (frame_inputs v)) coming (instance_with memory current trace)
-    ≡ Spent (instance_with memory current trace)
-
-one_spent_at : (described input output : List ℕ) (v : ℤ) (frame : ℕ) (coming : List Inputs) (b0 b1 b2 b3 b4 b5 b6 b7 : ℕ) (rest : List ℕ) (current : List (List ℤ)) (trace : List Item) →
-    single_frame (through_module described) (through_section input output) 1 frame (frame_inputs v) (instance_with (b0 ∷ b1 ∷ b2 ∷ b3 ∷ b4 ∷ b5 ∷ b6 ∷ b7 ∷ rest) current trace)
-    ≡ Spent (instance_with (b0 ∷ b1 ∷ b2 ∷ b3 ∷ b4 ∷ b5 ∷ b6 ∷ b7 ∷ rest) current trace)
-unfolding pieces plain act exec heard
-one_spent_at described input output v frame coming b0 b1 b2 b3 b4 b5 b6 b7 rest current trace =
+-- the outputs after a frame
+outputs_are : (input output : List ℕ) (v : ℤ) (rest : List ℕ) → FitsSigned w32 v → outputs_at (through_slots input output) 0 (after_frame v rest) ≡ v ∷ []
+outputs_are input output v rest fits =
     let u = cast_unsigned w32 v in
-    let first = long 4 (u % 256) (u / 256 % 256) (u / 65536 % 256) (u / 16777216 % 256) b4 b5 b6 b7 rest (omega arith) in
-    rw first refl
+    let below : u < 2 ^ 32 = cast_unsigned-lt w32 v fits in
+    let read = from_le_bytes-to_le_bytes_4 u below in
+    let same : u % 2 ^ 32 ≡ u = mod-eq_of_lt below in
+    let back = to_z-of_z w32 v fits in
+    rw read (rw same (rw read (rw back (rw (to_signed_fits w32 v fits) refl))))
 
-two_spent_at : (described input output : List ℕ) (v : ℤ) (frame : ℕ) (coming : List Inputs) (b0 b1 b2 b3 b4 b5 b6 b7 : ℕ) (rest : List ℕ) (current : List (List ℤ)) (trace : List Item) →
-    single_frame (through_module described) (through_section input output) 2 frame (frame_inputs v) (instance_with (b0 ∷ b1 ∷ b2 ∷ b3 ∷ b4 ∷ b5 ∷ b6 ∷ b7 ∷ rest) current trace)
-    ≡ Spent (instance_with (b0 ∷ b1 ∷ b2 ∷ b3 ∷ b4 ∷ b5 ∷ b6 ∷ b7 ∷ rest) current trace)
-unfolding pieces plain act exec heard
-two_spent_at described input output v frame coming b0 b1 b2 b3 b4 b5 b6 b7 rest current trace =
+-- a call of `frame` returns after three reductions
+pub frame_returns : (described input output : List ℕ) (v : ℤ) (frame most : ℕ) (globals : List ℕ) (b0 b1 b2 b3 b4 b5 b6 b7 : ℕ) (rest : List ℕ) (current : List (List ℤ)) (trace : List Item) (world : World) → FitsSigned w32 v → 2 < most →
+    world.trace ≡ trace ++ item.Frame frame (v ∷ []) ∷ [] → ((memory : List ℕ) → 8 ≤ length memory → Kept input output world current globals memory) →
+    CallEnds (funcs_of (through_module described)) (through_slots input output) frame most
+    (call_of (through_module described) (codes "frame") [] globals (write_inputs (through_slots input output) (frame_inputs v) current (b0 ∷ b1 ∷ b2 ∷ b3 ∷ b4 ∷ b5 ∷ b6 ∷ b7 ∷ rest)))
+    trace (CallReturns (Kept input output) (λ w. w.trace) current (frame_told (through_slots input output) 0 frame) world)
+unfolding pieces plain act
+frame_returns described input output v frame most globals b0 b1 b2 b3 b4 b5 b6 b7 rest current trace world fits few told kept =
     let u = cast_unsigned w32 v in
     let first = long 4 (u % 256) (u / 256 % 256) (u / 65536 % 256) (u / 16777216 % 256) b4 b5 b6 b7 rest (omega arith) in
     let second = long 8 (u % 256) (u / 256 % 256) (u / 65536 % 256) (u / 16777216 % 256) b4 b5 b6 b7 rest (omega arith) in
-    rw first (rw second refl)
-
-pub one_spent : (described input output : List ℕ) → IsSpent described input output 1
-one_spent described input output v frame coming memory current trace enough =
-    let e = eight memory enough in
-    subst
-    (λ (bytes : List ℕ). single_frame (through_module described) (through_section input output) 1 frame (frame_inputs v) (instance_with bytes current trace) ≡ Spent (instance_with bytes current trace))
-    (sym e.is) (one_spent_at described input output v frame coming e.b0 e.b1 e.b2 e.b3 e.b4 e.b5 e.b6 e.b7 e.rest current trace)
-
-pub two_spent : (described input output : List ℕ) → IsSpent described input output 2
-two_spent described input output v frame coming memory current trace enough =
-    let e = eight memory enough in
-    subst
-    (λ (bytes : List ℕ). single_frame (through_module described) (through_section input output) 2 frame (frame_inputs v) (instance_with bytes current trace) ≡ Spent (instance_with bytes current trace))
-    (sym e.is) (two_spent_at described input output v frame coming e.b0 e.b1 e.b2 e.b3 e.b4 e.b5 e.b6 e.b7 e.rest current trace)
-
--- ---- whole runs
-
-abbrev pub player_of : List ℕ → List ℕ → List ℕ → ℕ → Player Instance
-player_of described input output steps = module_player (through_module described) (through_section input output) steps
-
--- with three reductions or more each frame ends
-pub frames_end : (described input output : List ℕ) (steps : ℕ) (value : ℕ → ℤ) (count frame : ℕ) (memory : List ℕ) (current : List (List ℤ)) (trace : List Item) →
-    AreInt32 value → 8 ≤ length memory →
-    play (player_of described input output (suc (suc (suc steps)))) (frames_of value frame count) (instance_with memory current trace) ≡ ended_with (trace ++ told_of value frame count)
-frames_end described input output steps value zero frame memory current trace fits enough =
-    play-done (player_of described input output (suc (suc (suc steps)))) _ ∙ ap ended_with (sym (append-nil trace))
-frames_end described input output steps value (suc count) frame memory current trace fits enough =
-    let p = frame_part_goes described input output (value frame) frame steps (following (frames_of value (frame + 1) count)) memory current trace (fits frame) enough in
-    play-goes (player_of described input output (suc (suc (suc steps)))) (Frame frame (frame_inputs (value frame))) (frames_of value (frame + 1) count) _ _ p.goes
-    ∙ (frames_end described input output steps value count (frame + 1) p.after current _ fits p.long_enough
-    ∙ ap ended_with (append_assoc trace (item.Frame frame (value frame ∷ []) ∷ []) (told_of value (frame + 1) count)))
+    let bytes = to_le_bytes w32 u in
+    let memory = bytes ++ (b4 ∷ b5 ∷ b6 ∷ b7 ∷ rest) in
+    let after = after_frame v rest in
+    record {
+      count = 2;
+      es = [];
+      last = at Nil (record { values = []; locals = []; globals = globals; memory = after }) [] [];
+      items = [];
+      leads = andthen {d = at (Plain (instr.Store store.I32 (word_at 4)) Nil) (record { values = loaded load.I32 bytes ∷ 0 ∷ []; locals = []; globals = globals; memory = memory }) [] []} (one (rw first refl)) (one {d = at Nil (record { values = []; locals = []; globals = globals; memory = after }) [] []} (rw second refl));
+      few = few;
+      heard = refl;
+      after = record {
+        globals = globals;
+        memory = after;
+        is = refl;
+        tells = told ∙ (ap (λ t. t ++ item.Frame frame (v ∷ []) ∷ []) (sym (append-nil trace)) ∙ ap (λ outputs. (trace ++ []) ++ item.Frame frame outputs ∷ []) (sym (outputs_are input output v rest fits)));
+        kept = kept after (omega arith);
+      };
+    }

@@ -1,29 +1,31 @@
 -- The module that passes its input through keeps its patch, and can be written.
-use Rattle.std.proofs.Common.{◌≡◌, ◌≢◌, ℕ, ◌+◌, ◌<◌, ◌≤◌, ◌^◌, List, [], ◌∷◌, length, refl, sym, subst, arith, lit≤, lit<}
+use Rattle.std.proofs.Common.{◌≡◌, ◌≢◌, ℕ, ◌+◌, ◌<◌, ◌^◌, List, [], ◌∷◌, length, refl, sym, subst, arith, lit≤, lit<}
 use Rattle.std.specs.Prelude.{Result, Ok, Err, IfOk, Some}
 use Rattle.cm_tree.specs.Sizes.{memory_pages}
 use Rattle.cm_tree.specs.Through.{through_patch}
 use Rattle.wasm_tree.specs.declared.module.Custom.{Custom}
-use Rattle.wasm_tree.specs.declared.module.FuncBody.{FuncBody}
 use Rattle.wasm_tree.specs.declared.module.GlobalVar.{GlobalVar}
 use Rattle.wasm_tree.specs.Section.{Spelled_section}
-use Rattle.wasm_tree.specs.Spelled.{count_of_locals, most_locals, IsClosed, IsConstant}
-use Rattle.wasm_writer.specs.Spelling.{IsWritable, unsigned_bytes, unsigned_within, signed_bytes, signed_within, custom_contents}
+use Rattle.wasm_tree.specs.Spelled.{IsConstant}
+use Rattle.wasm_writer.specs.Spelling.{IsWritable, IsFormed, unsigned_bytes, unsigned_within, signed_bytes, signed_within, custom_contents}
 use Rattle.std.proofs.lemmas.List.Elements.{All-from_recursion}
 use Rattle.module_build.specs.Build.{KeepsPatch, HasPages}
 use Rattle.module_build.proofs.Source.{is_name-refl, is_name-distinct}
 use Rattle.module_build.specs.Through.{through_module, through_section, cmajor_custom}
-use Rattle.module_build.proofs.ThroughKeeps.{through_keeps}
+use Rattle.module_build.proofs.ThroughKeeps.{through_keeps, through_stopped}
 use Rattle.module_build.proofs.ThroughValid.{through_valid}
 
 pub keeps_patch : (described input output : List ℕ) → input ≢ output → Spelled_section (through_section input output) described → KeepsPatch (through_patch input output) (through_module described)
-keeps_patch described input output ne spelled = record {
-  section = through_section input output;
-  valid = through_valid described input output ne spelled;
-  endpoints = refl;
-  delay = refl;
-  runs = through_keeps described input output ne;
-}
+keeps_patch described input output ne spelled =
+    let valid = through_valid described input output ne spelled in
+    record {
+      section = through_section input output;
+      valid = valid;
+      endpoints = refl;
+      delay = refl;
+      runs = through_keeps described input output ne valid.cmajor.described.lawful;
+      stopped = through_stopped described input output ne valid.cmajor.described.lawful;
+    }
 
 custom_short : (described : List ℕ) → length described < 2 ^ 31 + 2 ^ 30 → length (custom_contents (cmajor_custom described)) < 2 ^ 32
 unfolding unsigned_bytes unsigned_within
@@ -32,18 +34,10 @@ custom_short described short = omega arith
 pub writable : (described : List ℕ) → length described < 2 ^ 31 + 2 ^ 30 → IsWritable (through_module described)
 unfolding unsigned_bytes unsigned_within signed_bytes signed_within
 writable described short = record {
-  types = lit< tt;
-  imports = lit< tt;
-  functions = lit< tt;
-  memory = lit< tt;
-  globals = lit< tt;
-  exports = lit< tt;
-  codes = lit< tt;
-  segments = lit< tt;
+  lists = record { types = lit< tt; imports = lit< tt; functions = lit< tt; memory = lit< tt; globals = lit< tt; exports = lit< tt; codes = lit< tt; segments = lit< tt };
   customs = All-from_recursion (λ (custom : Custom). length (custom_contents custom) < 2 ^ 32) (cmajor_custom described ∷ []) (custom_short described short, tt);
   constant = All-from_recursion (λ (global : GlobalVar). IsConstant global.value) [] tt;
-  locals = All-from_recursion (λ (body : FuncBody). count_of_locals body.locals ≤ most_locals) (through_module described).codes (lit≤ tt, (lit≤ tt, tt));
-  closed = All-from_recursion (λ (body : FuncBody). IsClosed [] body.code) (through_module described).codes (refl, (refl, tt));
+  formed = All-from_recursion IsFormed (through_module described).codes (record { few = lit≤ tt; closed = refl }, (record { few = lit≤ tt; closed = refl }, tt));
   sorted = refl;
   bodies = refl;
 }

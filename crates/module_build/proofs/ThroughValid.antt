@@ -1,21 +1,26 @@
 -- The module that passes its input through is valid.
-use Rattle.std.proofs.Common.{◌≡◌, ℕ, zero, suc, List, [], ◌∷◌, refl, sym, arith, lit≤, lit<}
-use Rattle.std.specs.Prelude.{Contains, codes, pos}
+use Rattle.std.proofs.Common.{◌≡◌, ℕ, zero, suc, List, [], ◌∷◌, length, subst, refl, sym, arith, lit≤, lit<}
+use Rattle.std.specs.Prelude.{Contains, Some, slice_get, codes, pos}
+use Rattle.std.specs.List.{AllByRecursion}
+use Rattle.std.proofs.lemmas.Option.{slice_get_within, get_or_from_slice_get}
+use Rattle.std.proofs.lemmas.List.Elements.{All-from_recursion}
 use Rattle.cm_base.specs.HostEnds.{IsLawful, AreDistinct}
 use Rattle.wasm_tree.specs.declared.module.ValType.TheVariants.{I32}
+use Rattle.wasm_tree.specs.declared.instr.Instr.{Instr}
 use Rattle.wasm_tree.specs.declared.instr.Instr.TheVariants as instr
 use Rattle.wasm_tree.specs.declared.op.LoadOp.TheVariants as load
 use Rattle.wasm_tree.specs.declared.op.StoreOp.TheVariants as store
 use Rattle.wasm_tree.specs.Reduce.{Seq, Nil, Plain, pieces}
 use Rattle.wasm_tree.specs.Section.{Spelled_section, IsSection, ends_of}
-use Rattle.wasm_tree.specs.Valid.{Valid, IsBody, Calls, HasNoCallCycle, HasImport, HasMemory, HasExports, IsExported, no_type}
+use Rattle.wasm_tree.specs.Host.{HasImport, HasExports, IsExported}
+use Rattle.wasm_tree.specs.Valid.{Valid, Index, IsIndexed, IsThere, counts, IsBody, Calls, CallCycle, HasMemory, no_type}
 use Rattle.module_build.specs.Through.{through_module, through_section, frame_code, init_code, body_of, word_at, one_page, emit_import, cmajor_custom}
 
 -- ---- bodies
 
 init_body : (described : List ℕ) → IsBody (through_module described) no_type (body_of init_code)
 unfolding pieces
-init_body described = record { tree = Nil; spells = refl; typed = refl; few_locals = lit≤ tt; flat = lit≤ tt }
+init_body described = record { tree = Nil; spells = refl; typed = refl; closed = refl }
 
 frame_tree : Seq
 frame_tree =
@@ -39,8 +44,31 @@ frame_body described = record {
       ),
     ),
   );
-  few_locals = lit≤ tt;
-  flat = lit≤ tt;
+  closed = refl;
+}
+
+-- ---- numbers
+
+-- what holds of each instruction holds of the one at a place
+instruction_at : (P : Instr → Type 0) (code : List Instr) (place : ℕ) (i : Instr) → AllByRecursion P code → slice_get code place ≡ Some i → P i
+instruction_at P code place i all e = subst P (get_or_from_slice_get code place i i e) (All-from_recursion P code all place i (slice_get_within code place i e))
+
+init_there : (described : List ℕ) → IsIndexed (through_module described) no_type (body_of init_code)
+init_there described place i arms e opens =
+    instruction_at (λ i. (n : ℕ) → IsThere (counts (through_module described) no_type (body_of init_code) n) i) init_code place i ((λ n. tt), tt) e (length arms)
+
+frame_there : (described : List ℕ) → IsIndexed (through_module described) no_type (body_of frame_code)
+frame_there described place i arms e opens =
+    instruction_at (λ i. (n : ℕ) → IsThere (counts (through_module described) no_type (body_of frame_code) n) i) frame_code place i
+    ((λ n. tt), ((λ n. tt), ((λ n. lit< tt), ((λ n. lit< tt), ((λ n. tt), tt))))) e (length arms)
+
+has_numbers : (described : List ℕ) → Index (through_module described)
+has_numbers described = record {
+  imports = (lit< tt, tt);
+  functions = (lit< tt, (lit< tt, tt));
+  exports = (lit< tt, (lit< tt, (lit< tt, tt)));
+  bodies = (init_there described, (frame_there described, refl));
+  segments = tt;
 }
 
 -- ---- no calls
@@ -63,7 +91,7 @@ no_calls described (suc zero) g c = not_in_init g c
 no_calls described (suc (suc zero)) g c = not_in_frame g c
 no_calls described (suc (suc (suc n))) g c = omega (arith, c.1)
 
-no_cycle : (described : List ℕ) → HasNoCallCycle (through_module described)
+no_cycle : (described : List ℕ) → CallCycle (through_module described)
 no_cycle described f [] c = no_calls described f f c
 no_cycle described f (h ∷ hs) c = no_calls described f h c.0
 
@@ -108,15 +136,14 @@ is_section described input output ne spelled =
 pub through_valid : (described input output : List ℕ) → (input ≡ output → ⊥) → Spelled_section (through_section input output) described →
     Valid (through_module described) (through_section input output)
 through_valid described input output ne spelled = record {
-  types = (lit≤ tt, (lit≤ tt, tt));
-  imports = has_import described;
-  functions = (lit< tt, (lit< tt, tt));
-  memory = has_memory described;
-  globals = tt;
-  exports = has_exports described input output;
-  bodies = (init_body described, (frame_body described, refl));
-  calls = no_cycle described;
-  segments = tt;
-  described = is_section described input output ne spelled;
-  slots = (lit≤ tt, (lit≤ tt, tt));
+  index = has_numbers described;
+  limit = record {
+    memory = has_memory described;
+    bodies = (record { locals = lit≤ tt; nesting = refl }, (record { locals = lit≤ tt; nesting = refl }, tt));
+  };
+  typing = record { types = (lit≤ tt, (lit≤ tt, tt)); globals = tt; bodies = (init_body described, (frame_body described, refl)) };
+  call_cycle = no_cycle described;
+  segment = tt;
+  interface = record { imports = has_import described; exports = has_exports described input output };
+  cmajor = record { described = is_section described input output ne spelled; slots = ((λ some. lit≤ tt), ((λ some. lit≤ tt), tt)) };
 }

@@ -1,14 +1,14 @@
 -- What the module of a patch is built for: docs/PROOFS.md, "The headline".
 use Rattle.std.specs.Prelude.{◌≡◌, [], ◌∷◌, Some}
 use Rattle.cm_tree.specs.Patch.{Patch}
-use Rattle.cm_tree.specs.Run.{run, run_part}
-use Rattle.cm_tree.specs.Sizes.{cost, memory_pages}
+use Rattle.cm_tree.specs.Run.{patch_source}
+use Rattle.cm_tree.specs.Sizes.{memory_pages}
 use Rattle.wasm_tree.specs.declared.module.Module.{Module}
 use Rattle.wasm_tree.specs.Keeps.{Keeps}
 
 -- the module keeps the patch: its endpoints in order, its latency, and its runs
 abbrev pub KeepsPatch : Patch → Module → Type 0
-KeepsPatch patch m = Keeps patch.host patch.latency (cost patch) (run patch) (run_part patch) m
+KeepsPatch patch m = Keeps (patch_source patch) m
 
 -- the memory has as many pages as the patch's sizes ask for, at the least and at the most
 abbrev pub HasPages : Patch → Module → Type 0

@@ -1,7 +1,9 @@
 pub mod Count
 pub mod Files
 pub mod Folder
+pub mod Lines
 pub mod Listener
 pub mod Memory
+pub mod Seen
 pub mod Sink
 pub mod Told

@@ -1,7 +1,8 @@
-ghost use Rattle.std.specs.Prelude.{◌≡◌, ℕ, ◌≤◌, length, Option, Some, None, IfSome};
+ghost use Rattle.std.specs.Prelude.{◌≡◌, ◌≤◌, length, Some, None};
 ghost use Rattle.cm_io.specs.Count.{Rose};
-ghost use Rattle.cm_io.specs.Files.{Files, file_at, first_bytes, KeepsOthers};
+ghost use Rattle.cm_io.specs.Files.{file_at, first_bytes, KeepsOthers};
 ghost use Rattle.cm_io.specs.Folder.{IfRead, OnAbsent, OnReadFailed, OnWritten, OnWriteFailed, OnWriteNoMemory};
+ghost use Rattle.cm_io.specs.Seen.{Seen, CountsStay, IfTold, OnlyRead};
 
 use cm_base::Bytes;
 use std::alloc::Global;
@@ -30,32 +31,23 @@ pub enum Wrote {
 /// Files by their names. A folder in memory tells what it holds. One on a disk tells nothing, and its
 /// two counts are the only evidence that a call failed or found no file.
 pub trait Folder {
-    /// What the folder tells of its files.
-    ghost holds: { Self → Option Files };
-
-    /// How many calls failed.
-    ghost faults: { Self → ℕ };
-
-    /// How many reads found no file.
-    ghost absences: { Self → ℕ };
+    /// What the folder tells of its files, how many calls failed, and how many reads found no file.
+    ghost seen: { Self → Seen };
 
     /// The first `most` bytes of a file, or all where it has no more.
     fn read(&mut self, alloc: Global, name: &str, most: u64) -> Read
-        ensures same_files { holds self.new ≡ holds self.old }
-        ensures faults_stay { faults self.old ≤ faults self.new }
-        ensures absences_stay { absences self.old ≤ absences self.new }
-        ensures bytes { IfRead result (λ bytes. IfSome (holds self.old) (λ files. first_bytes most (file_at files name.now) ≡ Some bytes)) }
+        ensures only_read { OnlyRead (seen self.old) (seen self.new) }
+        ensures bytes { IfRead result (λ bytes. IfTold (seen self.old) (λ files. first_bytes most (file_at files name.now) ≡ Some bytes)) }
         ensures few { IfRead result (λ bytes. length bytes ≤ most) }
-        ensures absent_counted { OnAbsent result (Rose (absences self.old) (absences self.new)) }
-        ensures absent_held_not { OnAbsent result (IfSome (holds self.old) (λ files. file_at files name.now ≡ None)) }
-        ensures failed_counted { OnReadFailed result (Rose (faults self.old) (faults self.new)) };
+        ensures absent_counted { OnAbsent result (Rose (seen self.old).absences (seen self.new).absences) }
+        ensures absent_held_not { OnAbsent result (IfTold (seen self.old) (λ files. file_at files name.now ≡ None)) }
+        ensures failed_counted { OnReadFailed result (Rose (seen self.old).faults (seen self.new).faults) };
 
     /// Makes `bytes` the whole file of that name.
     fn write(&mut self, alloc: Global, name: &str, bytes: &[u8]) -> Wrote
-        ensures others { KeepsOthers (holds self.old) (holds self.new) name.now }
-        ensures faults_stay { faults self.old ≤ faults self.new }
-        ensures absences_stay { absences self.old ≤ absences self.new }
-        ensures written { OnWritten result (IfSome (holds self.new) (λ files. file_at files name.now ≡ Some bytes.now)) }
-        ensures failed_counted { OnWriteFailed result (Rose (faults self.old) (faults self.new)) }
-        ensures no_memory { OnWriteNoMemory result (holds self.new ≡ holds self.old) };
+        ensures others { KeepsOthers (seen self.old).holds (seen self.new).holds name.now }
+        ensures counts { CountsStay (seen self.old) (seen self.new) }
+        ensures written { OnWritten result (IfTold (seen self.new) (λ files. file_at files name.now ≡ Some bytes.now)) }
+        ensures failed_counted { OnWriteFailed result (Rose (seen self.old).faults (seen self.new).faults) }
+        ensures no_memory { OnWriteNoMemory result ((seen self.new).holds ≡ (seen self.old).holds) };
 }

@@ -60,11 +60,7 @@ impl MemoryFolder {
 
 #[tactic(auto, using(crate::proofs::FileLemmas::written_file_is_there, crate::proofs::FileLemmas::other_files_stay))]
 impl Folder for MemoryFolder {
-    ghost holds = { λ folder. Some folder.files };
-
-    ghost faults = { λ folder. folder.faults };
-
-    ghost absences = { λ folder. folder.absences };
+    ghost seen = { λ folder. record { holds = Some folder.files; faults = folder.faults; absences = folder.absences } };
 
     fn read(&mut self, alloc: Global, name: &str, most: u64) -> Read
         ensures leaves { self.new ≡ read_leaves self.old result }

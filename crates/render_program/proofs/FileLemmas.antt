@@ -1,11 +1,14 @@
--- What the first bytes of a file tell of it.
-use Rattle.std.proofs.Common.{◌≡◌, ℕ, ◌+◌, ◌<◌, List, length, take, min, Option, Some, None, refl, sym, ◌∙◌, ap, arith}
+-- What the first bytes of a file tell of it, and what stands with a read that gave none.
+use Rattle.std.proofs.Common.{◌≡◌, ℕ, ◌+◌, ◌<◌, ◌≤◌, List, length, take, min, Option, Some, None, refl, sym, ◌∙◌, ap, subst, arith}
 use Rattle.std.specs.Prelude.{IfSome}
 use Rattle.std.proofs.lemmas.List.{length-take}
+use Rattle.cm_io.specs.Count.{Rose}
 use Rattle.cm_io.specs.Files.{Files, file_at, first_bytes}
+use Rattle.cm_io.specs.Seen.{Seen}
 use Rattle.render_program.specs.declared.status.FileRef.{FileRef}
-use Rattle.render_program.specs.Files.{IsTooBig}
-use Rattle.render_program.specs.Statuses.{limit_of}
+use Rattle.render_program.specs.declared.status.Status.TheVariants as status
+use Rattle.render_program.specs.Files.{Unread, Missing, Long, least_limit}
+use Rattle.render_program.specs.Steps.{Stopped, FileAbsent, FileTooBig}
 
 long_file : (most : ℕ) (held : Option (List ℕ)) (bytes : List ℕ) → first_bytes (most + 1) held ≡ Some bytes → most < length bytes →
     (whole : List ℕ) × (held ≡ Some whole) × (most < length whole) × (length bytes ≡ most + 1)
@@ -15,10 +18,23 @@ long_file most (Some whole) bytes read past =
     let e : length bytes ≡ min (most + 1) (length whole) = ap length (sym same) ∙ length-take (most + 1) whole in
     (whole, refl, omega arith, omega arith)
 
--- a file of which more than the limit was read is too big, and one byte more than the limit was read
-pub too_big : (file : FileRef) (most n : ℕ) (held : Option Files) (name bytes : List ℕ) → most ≡ limit_of file → n ≡ length bytes →
-    IfSome held (λ files. first_bytes (most + 1) (file_at files name) ≡ Some bytes) → most < n → (limit_of file < n) × IfSome held (λ files. (n ≡ limit_of file + 1) × IsTooBig file files name)
-too_big file most n None name bytes e len read past = (omega arith, tt)
-too_big file most n (Some files) name bytes e len read past =
-    let l = long_file most (file_at files name) bytes read (omega arith) in
-    (omega arith, (len ∙ l.3 ∙ ap (λ k. k + 1) e, record { bytes = l.0; held = l.1; long = omega (arith, l.2) }))
+long_due : (f : FileRef) (limit n : ℕ) (held : Option Files) (name bytes : List ℕ) → n ≡ length bytes → IfSome held (λ files. first_bytes (limit + 1) (file_at files name) ≡ Some bytes) → limit < n →
+    IfSome held (λ files. Unread files f name limit (status.TooBig f n))
+long_due f limit n None name bytes len read past = tt
+long_due f limit n (Some files) name bytes len read past =
+    let l = long_file limit (file_at files name) bytes read (omega arith) in
+    subst (λ (k : ℕ). Unread files f name limit (status.TooBig f k)) (sym (len ∙ l.3)) (Long l.0 l.1 l.2)
+
+-- more than the limit was read
+pub long_stop : (before after : Seen) (f : FileRef) (limit n : ℕ) (name bytes : List ℕ) → n ≡ length bytes → IfSome before.holds (λ files. first_bytes (limit + 1) (file_at files name) ≡ Some bytes) →
+    least_limit f ≤ limit → limit < n → Stopped before after (λ g. g ≡ f) (λ files. Unread files f name limit) (status.TooBig f n)
+long_stop before after f limit n name bytes len read least past = FileTooBig f n refl (omega arith) (long_due f limit n before.holds name bytes len read past)
+
+missing_due : (f : FileRef) (limit : ℕ) (held : Option Files) (name : List ℕ) → IfSome held (λ files. file_at files name ≡ None) → IfSome held (λ files. Unread files f name limit (status.Absent f))
+missing_due f limit None name none = tt
+missing_due f limit (Some files) name none = Missing none
+
+-- there was no file
+pub absent_stop : (before after : Seen) (f : FileRef) (limit : ℕ) (name : List ℕ) → Rose before.absences after.absences → IfSome before.holds (λ files. file_at files name ≡ None) →
+    Stopped before after (λ g. g ≡ f) (λ files. Unread files f name limit) (status.Absent f)
+absent_stop before after f limit name rose none = FileAbsent f refl rose (missing_due f limit before.holds name none)

@@ -1,4 +1,5 @@
 pub mod Adapters
 pub mod FileLemmas
-pub mod StageLemmas
+pub mod StepLemmas
+pub mod PatchLemmas
 pub mod EndLemmas

@@ -1,31 +1,50 @@
--- What stands with a file that wasn't read or written.
-use Rattle.std.specs.Prelude.{ℕ, ◌≡◌, ◌+◌, ◌<◌, List, length, Option, Some, None, IfSome}
-use Rattle.cm_io.specs.Count.{Rose}
-use Rattle.cm_io.specs.Files.{Files, file_at}
+-- The files that commands read and write: docs/COMMANDS.md, "Sources" and "What is written".
+use Rattle.std.specs.Prelude.{ℕ, ◌≡◌, ◌≤◌, ◌<◌, ◌+◌, ◌==◌, ◌⊎◌, List, length, Option, Some, None, if◌then◌else◌}
+use Rattle.cm_io.specs.Files.{Files, file_at, KeepsOthers}
+use Rattle.cm_io.specs.Seen.{Seen}
 use Rattle.render_program.specs.declared.status.FileRef.{FileRef}
-use Rattle.render_program.specs.declared.status.Target.TheVariants as target
+use Rattle.render_program.specs.declared.status.FileRef.TheVariants as file
 use Rattle.render_program.specs.declared.status.Status.{Status}
 use Rattle.render_program.specs.declared.status.Status.TheVariants as status
-use Rattle.render_program.specs.Statuses.{limit_of}
 
--- the file is longer than its limit
-pub record IsTooBig (file : FileRef) (files : Files) (name : List ℕ) : Type 0 where
-  pub bytes : List ℕ
+-- The least limit that a file can have, in bytes. Only what was read decides on a higher one: a source after
+-- the first may have what those before it have left, and a state file of version 2 more than one of version 1.
+abbrev pub least_limit : FileRef → ℕ
+least_limit file.Manifest = 1048576
+least_limit (file.Source number) = if number == 1 then 1048576 else 0
+least_limit file.State = 1048576
+least_limit file.Input = 8388608
+least_limit file.Module = 33554432
+
+-- the files of a patch: its manifest, and so far one source
+abbrev pub IsPatchFile : FileRef → Type 0
+IsPatchFile file.Manifest = Unit {0}
+IsPatchFile (file.Source number) = number ≡ 1
+IsPatchFile file.State = ⊥
+IsPatchFile file.Input = ⊥
+IsPatchFile file.Module = ⊥
+
+-- the file of this name has these bytes, no more than its limit
+pub record HasFile (files : Files) (name : List ℕ) (limit : ℕ) (bytes : List ℕ) : Type 0 where
   pub held : file_at files name ≡ Some bytes
-  pub long : limit_of file < length bytes
+  pub within : length bytes ≤ limit
 
--- a read failed: the file is absent, or the folder failed, or the file is too big, or memory ran out
-abbrev pub IsReadFailure : FileRef → Option Files → List ℕ → (faults faults' absences absences' : ℕ) → Status → Type 0
-IsReadFailure file held name faults faults' absences absences' (status.Absent f) =
-    (f ≡ file) × Rose absences absences' × IfSome held (λ files. file_at files name ≡ None)
-IsReadFailure file held name faults faults' absences absences' (status.ReadFault f) = (f ≡ file) × Rose faults faults'
-IsReadFailure file held name faults faults' absences absences' (status.TooBig f length_read) =
-    (f ≡ file) × (limit_of file < length_read) × IfSome held (λ files. (length_read ≡ limit_of file + 1) × IsTooBig file files name)
-IsReadFailure file held name faults faults' absences absences' status.NoMemory = Unit {0}
-IsReadFailure file held name faults faults' absences absences' _ = ⊥
+-- the file of this name has bytes within its limit, of which this holds
+pub record FileWith (files : Files) (name : List ℕ) (limit : ℕ) (P : List ℕ → Type 0) : Type 0 where
+  pub bytes : List ℕ
+  pub file : HasFile files name limit bytes
+  pub holds : P bytes
 
--- a write failed: the folder failed, or memory ran out and everything is as before
-abbrev pub IsWriteFailure : (faults faults' : ℕ) → Type 0 → Status → Type 0
-IsWriteFailure faults faults' same (status.WriteFault t) = (t ≡ target.File) × Rose faults faults'
-IsWriteFailure faults faults' same status.NoMemory = same
-IsWriteFailure faults faults' same _ = ⊥
+-- what is due where a file has no bytes to work on: of one that is too long one byte more than the limit is read
+pub data Unread (files : Files) (f : FileRef) (name : List ℕ) (limit : ℕ) : Status → Type 0 where
+  Missing : file_at files name ≡ None → Unread files f name limit (status.Absent f)
+  Long : (bytes : List ℕ) → file_at files name ≡ Some bytes → limit < length bytes → Unread files f name limit (status.TooBig f (limit + 1))
+
+-- what is due after a file: it has no bytes to work on, or its bytes decide
+abbrev pub AfterFile : Files → FileRef → List ℕ → ℕ → (List ℕ → Status → Type 0) → Status → Type 0
+AfterFile files f name limit decide due = Unread files f name limit due ⊎ FileWith files name limit (λ bytes. decide bytes due)
+
+-- every file is as before, but for the one to write, where there is one
+abbrev pub KeepsUnwritten : Option (List ℕ) → Seen → Seen → Type 0
+KeepsUnwritten None before after = after.holds ≡ before.holds
+KeepsUnwritten (Some name) before after = KeepsOthers before.holds after.holds name

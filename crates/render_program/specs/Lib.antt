@@ -1,7 +1,8 @@
 pub mod Compile
 pub mod Due
 pub mod Files
-pub mod Stages
-pub mod Statuses
-pub mod Words
 pub mod Outside
+pub mod Patch
+pub mod Statuses
+pub mod Steps
+pub mod Words

@@ -1,12 +1,17 @@
--- Which status has which evidence: docs/COMMANDS.md, "Statuses".
-use Rattle.std.specs.Prelude.{ℕ, ◌≡◌, ◌<◌, []}
-use Rattle.cm_base.specs.declared.cause.Cause.TheVariants.{NotYet}
-use Rattle.cm_base.specs.declared.failure.Refused.{Refused}
+-- What each status needs: docs/COMMANDS.md, "Statuses".
+use Rattle.std.specs.Prelude.{ℕ, ◌≡◌, ◌<◌}
+use Rattle.cm_base.specs.declared.failure.Fail.{Fail}
+use Rattle.cm_base.specs.declared.failure.Fail.TheVariants as fail
+use Rattle.cm_io.specs.Count.{Rose}
+use Rattle.cm_io.specs.Seen.{Seen}
 use Rattle.render_program.specs.declared.status.FileRef.{FileRef}
 use Rattle.render_program.specs.declared.status.FileRef.TheVariants as file
+use Rattle.render_program.specs.declared.status.Target.{Target}
 use Rattle.render_program.specs.declared.status.Target.TheVariants as target
 use Rattle.render_program.specs.declared.status.Status.{Status}
 use Rattle.render_program.specs.declared.status.Status.TheVariants as status
+use Rattle.render_program.specs.Files.{IsPatchFile, least_limit}
+use Rattle.render_program.specs.Words.{Command, Compile}
 
 -- the number that the program exits with
 abbrev pub number_of : Status → ℕ
@@ -26,17 +31,42 @@ number_of (status.WriteFault t) = 12
 number_of (status.ListenerFault number) = 13
 number_of status.NoMemory = 14
 
--- a refusal of what no code covers so far, at this place
-abbrev pub not_yet : ℕ → ℕ → ℕ → Refused
-not_yet number line column = record { cause = NotYet; place = record { file = number; line = line; column = column }; cycle = [] }
+-- the status of a phase that gives no result
+abbrev pub status_of : Fail → Status
+status_of (fail.Refused refused) = status.Refused refused
+status_of fail.NoMemory = status.NoMemory
 
--- how many bytes a file may have
-abbrev pub limit_of : FileRef → ℕ
-limit_of file.Manifest = 1048576
-limit_of (file.Source number) = 1048576
-limit_of file.State = 1048576
-limit_of file.Input = 8388608
-limit_of file.Module = 33554432
+-- ---- which statuses a command can answer at all
+
+-- the files that a command reads
+abbrev pub Reads : Command → FileRef → Type 0
+Reads (Compile manifest out) f = IsPatchFile f
+
+-- what a command writes
+abbrev pub Writes : Command → Target → Type 0
+Writes (Compile manifest out) t = t ≡ target.File
+
+-- A command answers for the files that it reads and for what it writes; one that reads a manifest can refuse
+-- the patch. No command reads a state, a script or a module so far, and none runs anything.
+abbrev pub MayAnswer : Command → Status → Type 0
+MayAnswer command status.Ok = Unit {0}
+MayAnswer command status.NoMemory = Unit {0}
+MayAnswer command (status.Absent f) = Reads command f
+MayAnswer command (status.ReadFault f) = Reads command f
+MayAnswer command (status.TooBig f length) = Reads command f
+MayAnswer command (status.Refused r) = Reads command file.Manifest
+MayAnswer command (status.WriteFault t) = Writes command t
+MayAnswer command _ = ⊥
+
+-- ---- what stands with a status
+
+-- the folder counted what was absent and what failed, and more was read than a file may have
+abbrev pub HasCause : Seen → Seen → Status → Type 0
+HasCause before after (status.Absent f) = Rose before.absences after.absences
+HasCause before after (status.ReadFault f) = Rose before.faults after.faults
+HasCause before after (status.WriteFault t) = Rose before.faults after.faults
+HasCause before after (status.TooBig f length) = least_limit f < length
+HasCause before after _ = Unit {0}
 
 -- A fact for the statuses that the words and the files explain. A fault of the folder and want of memory
 -- may come instead of any.
@@ -44,42 +74,10 @@ abbrev pub OnExplained : Status → Type 0 → Type 0
 OnExplained (status.ReadFault f) P = Unit {0}
 OnExplained (status.WriteFault t) P = Unit {0}
 OnExplained status.NoMemory P = Unit {0}
-OnExplained status.Ok P = P
-OnExplained status.Usage P = P
-OnExplained (status.Absent f) P = P
-OnExplained (status.TooBig f length) P = P
-OnExplained (status.Refused r) P = P
-OnExplained (status.StateRefused fault) P = P
-OnExplained (status.InputRefused fault) P = P
-OnExplained (status.ModuleRefused refused) P = P
-OnExplained (status.TurnsSpent at) P = P
-OnExplained (status.StepsSpent at) P = P
-OnExplained (status.Trapped at) P = P
-OnExplained (status.ListenerFault number) P = P
-
--- a fact where a file was absent
-abbrev pub OnAbsentStatus : Status → Type 0 → Type 0
-OnAbsentStatus (status.Absent f) P = P
-OnAbsentStatus _ P = Unit {0}
-
--- a fact where a read or a write failed
-abbrev pub OnFault : Status → Type 0 → Type 0
-OnFault (status.ReadFault f) P = P
-OnFault (status.WriteFault t) P = P
-OnFault _ P = Unit {0}
-
--- a file is too big only past its limit
-abbrev pub IsPastLimit : Status → Type 0
-IsPastLimit (status.TooBig f length) = limit_of f < length
-IsPastLimit _ = Unit {0}
+OnExplained _ P = P
 
 -- a fact where nothing was written or tried to be: not after `Ok`, nor after a failed write
 abbrev pub OnUnwritten : Status → Type 0 → Type 0
 OnUnwritten status.Ok P = Unit {0}
 OnUnwritten (status.WriteFault t) P = Unit {0}
 OnUnwritten _ P = P
-
--- only the file that the command writes can fail to be written
-abbrev pub IsFileFault : Status → Type 0
-IsFileFault (status.WriteFault t) = t ≡ target.File
-IsFileFault _ = Unit {0}

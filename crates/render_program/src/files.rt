@@ -1,47 +1,36 @@
 //! Files of a folder, read up to their limits and written whole.
 
-ghost use Rattle.std.specs.Prelude.{◌≡◌, ◌≤◌, length, IfOk, IfErr, OnOk, IfSome, Some};
+ghost use Rattle.std.specs.Prelude.{◌≡◌, ◌≤◌, ◌<◌, ◌-◌, ◌^◌, length, IfOk, IfErr, OnOk, Some};
 ghost use Rattle.cm_io.specs.Files.{file_at, KeepsOthers};
-ghost use Rattle.render_program.specs.Statuses.{limit_of};
-ghost use Rattle.render_program.specs.Files.{IsReadFailure, IsWriteFailure};
+ghost use Rattle.cm_io.specs.Seen.{CountsStay, IfTold, OnlyRead};
+ghost use Rattle.render_program.specs.Files.{HasFile, Unread, least_limit};
+ghost use Rattle.render_program.specs.Steps.{Stopped, Unwritten};
 
 use crate::status::{FileRef, Status, Target};
-use cm_base::Bytes;
+use crate::stop::Stop;
+use cm_base::{Bytes, Name, NoMemory};
 use cm_io::{Folder, Read, Wrote};
 use std::alloc::Global;
 
-/// How many bytes the file may have.
-pub fn limit(file: FileRef) -> u64
-    ensures { result ≡ limit_of file }
-{
-    match file {
-        FileRef::Manifest => cm_base::limits::MANIFEST_BYTES,
-        FileRef::Source(_) => cm_base::limits::SOURCE_BYTES,
-        FileRef::State => cm_base::limits::STATE_BYTES,
-        FileRef::Input => cm_base::limits::SCRIPT_BYTES,
-        FileRef::Module => cm_base::limits::MODULE_BYTES,
-    }
-}
-
-/// The bytes of a file that is within its limit.
+/// The bytes of a file that has at most `limit` of them.
 pub fn read_file<F: Folder>(
     alloc: Global,
     folder: &mut F,
     name: &str,
     file: FileRef,
+    limit: u64,
 ) -> Result<Bytes, Status>
-    ensures same_files { F.holds folder.new ≡ F.holds folder.old }
-    ensures faults_stay { F.faults folder.old ≤ F.faults folder.new }
-    ensures absences_stay { F.absences folder.old ≤ F.absences folder.new }
-    ensures within { IfOk result (λ bytes. length bytes ≤ limit_of file) }
-    ensures held { IfOk result (λ bytes. IfSome (F.holds folder.old) (λ files. file_at files name.now ≡ Some bytes)) }
-    ensures failure { IfErr result (λ status. IsReadFailure file (F.holds folder.old) name.now (F.faults folder.old) (F.faults folder.new) (F.absences folder.old) (F.absences folder.new) status) }
+    requires least { least_limit file ≤ limit }
+    requires more { limit < 2 ^ 64 - 1 }
+    ensures only_read { OnlyRead (F.seen folder.old) (F.seen folder.new) }
+    ensures within { IfOk result (λ bytes. length bytes ≤ limit) }
+    ensures held { IfOk result (λ bytes. IfTold (F.seen folder.old) (λ files. HasFile files name.now limit bytes)) }
+    ensures stopped { IfErr result (Stopped (F.seen folder.old) (F.seen folder.new) (λ f. f ≡ file) (λ files. Unread files file name.now limit)) }
 {
-    let most = limit(file);
-    match folder.read(alloc, name, most + 1) {
+    match folder.read(alloc, name, limit + 1) {
         Read::Bytes(bytes) => {
             let length = bytes.len() as u64;
-            if length > most {
+            if length > limit {
                 return Err(Status::TooBig(file, length));
             }
             Ok(bytes)
@@ -58,16 +47,20 @@ pub fn write_file<F: Folder>(
     folder: &mut F,
     name: &str,
     bytes: &[u8],
-) -> Result<(), Status>
-    ensures others { KeepsOthers (F.holds folder.old) (F.holds folder.new) name.now }
-    ensures faults_stay { F.faults folder.old ≤ F.faults folder.new }
-    ensures absences_stay { F.absences folder.old ≤ F.absences folder.new }
-    ensures written { OnOk result (IfSome (F.holds folder.new) (λ files. file_at files name.now ≡ Some bytes.now)) }
-    ensures failure { IfErr result (λ status. IsWriteFailure (F.faults folder.old) (F.faults folder.new) (F.holds folder.new ≡ F.holds folder.old) status) }
+) -> Result<(), Stop>
+    ensures others { KeepsOthers (F.seen folder.old).holds (F.seen folder.new).holds name.now }
+    ensures counts { CountsStay (F.seen folder.old) (F.seen folder.new) }
+    ensures written { OnOk result (IfTold (F.seen folder.new) (λ files. file_at files name.now ≡ Some bytes.now)) }
+    ensures failure { IfErr result (λ stop. Unwritten (F.seen folder.old) (F.seen folder.new) stop.status) }
 {
+    // The name comes first: after a failed write there is no other answer.
+    let about = Some(Name::from_str(alloc, name)?);
     match folder.write(alloc, name, bytes) {
         Wrote::Ok => Ok(()),
-        Wrote::Failed => Err(Status::WriteFault(Target::File)),
-        Wrote::NoMemory => Err(Status::NoMemory),
+        Wrote::Failed => Err(Stop {
+            status: Status::WriteFault(Target::File),
+            about,
+        }),
+        Wrote::NoMemory => Err(Stop::from(NoMemory)),
     }
 }

@@ -2,12 +2,18 @@
 //! outside every proof; each counts its errors, up to the greatest number of 64 bits. What they read from a
 //! reader and write to a writer is proved for every one that tells what it has.
 
-ghost use Rattle.std.specs.Prelude.{◌≡◌, ◌≤◌, length, take, IfOk, IfSome, OnOk};
-ghost use Rattle.std.specs.Io.KnownBytes.{Appends};
+ghost use Rattle.std.specs.Prelude.{◌≡◌, ◌≢◌, ◌≤◌, length, take, IfErr, IfOk, IfSome, OnOk};
+ghost use Rattle.std.specs.IoError.{error_kind};
+ghost use Rattle.std.specs.Io.{ReadsAtMost, WritesAtMost};
+ghost use Rattle.std.specs.Io.KnownBytes.{Appends, Keeps, ReadConsumes, WriteAppends};
 ghost use Rattle.cm_io.specs.Count.{Rose};
 ghost use Rattle.cm_io.specs.Sink.{OnPut, OnPutFailed, OnPutNoMemory};
 ghost use Rattle.render_program.specs.Outside.{AppendsFront};
 
+#[cfg(test)]
+mod tests;
+
+use crate::whole_file::write_whole;
 use cm_base::Items;
 use cm_io::{Folder, Put, Read, Sink, Wrote};
 use std::alloc::{AllocError, Global};
@@ -17,6 +23,9 @@ use std::rt::Files;
 
 /// How many bytes are read at once.
 const CHUNK: usize = 8192;
+
+/// How many times a call that a signal interrupts is made.
+const TRIES: u64 = u64::MAX;
 
 /// The files of the folder that the program runs in.
 #[derive(Drop)]
@@ -42,11 +51,7 @@ impl<'a, R: Files> Disk<'a, R> {
 impl<'a, R: Files> Folder for Disk<'a, R> {
     ghost use Rattle.std.specs.Prelude.{None};
 
-    ghost holds = { λ disk. None };
-
-    ghost faults = { λ disk. disk.faults };
-
-    ghost absences = { λ disk. disk.absences };
+    ghost seen = { λ disk. record { holds = None; faults = disk.faults; absences = disk.absences } };
 
     fn read(&mut self, alloc: Global, name: &str, most: u64) -> Read {
         match read_most(self.files, alloc, name, most) {
@@ -65,14 +70,12 @@ impl<'a, R: Files> Folder for Disk<'a, R> {
         }
     }
 
-    fn write(&mut self, _alloc: Global, name: &str, bytes: &[u8]) -> Wrote {
-        match write_whole(self.files, name, bytes) {
-            Ok(()) => Wrote::Ok,
-            Err(_) => {
-                self.faults = self.faults.saturating_add(1);
-                Wrote::Failed
-            }
+    fn write(&mut self, alloc: Global, name: &str, bytes: &[u8]) -> Wrote {
+        let wrote = write_whole(self.files, alloc, name, bytes);
+        if wrote == Wrote::Failed {
+            self.faults = self.faults.saturating_add(1);
         }
+        wrote
     }
 }
 
@@ -89,13 +92,14 @@ fn read_most<R: Files>(files: &R, alloc: Global, name: &str, most: u64) -> io::R
 fn read_front<R: io::Read>(from: &mut R, alloc: Global, most: u64) -> io::Result<Vec<u8>>
     ensures few { IfOk result (λ bytes. length bytes.items ≤ most) }
     ensures front { IfOk result (λ bytes. IfSome (R.remaining from.old) (λ whole. bytes.items ≡ take most whole)) }
+    ensures not_interrupted { IfErr result (λ e. error_kind e ≢ ErrorKind.Interrupted) }
 {
     let mut bytes = Vec::new(alloc);
     let mut chunk = [0u8; CHUNK];
     let mut left = most;
     while left > 0 {
         let want = left.min(CHUNK as u64) as usize;
-        let count = from.read(&mut chunk[..want])?;
+        let count = read_again(from, &mut chunk[..want])?;
         if count == 0 {
             return Ok(bytes);
         }
@@ -105,28 +109,67 @@ fn read_front<R: io::Read>(from: &mut R, alloc: Global, most: u64) -> io::Result
     Ok(bytes)
 }
 
-/// Makes the bytes the whole file of that name.
-fn write_whole<R: Files>(files: &R, name: &str, bytes: &[u8]) -> io::Result<()> {
-    let mut file = fs::create(files, name)?;
-    write_each(&mut file, bytes)
+/// Reads once, and again where a signal interrupts the read, which has then taken nothing.
+fn read_again<R: io::Read>(from: &mut R, chunk: &mut [u8]) -> io::Result<usize>
+    ensures bound { ReadsAtMost result chunk.new }
+    ensures bytes { ReadConsumes (R.remaining from.old) (R.remaining from.new) result chunk.new }
+    ensures not_interrupted { IfErr result (λ e. error_kind e ≢ ErrorKind.Interrupted) }
+{
+    for _ in 0..TRIES {
+        match from.read(chunk) {
+            Err(error) if error.kind() == ErrorKind::Interrupted => {}
+            answer => return answer,
+        }
+    }
+    Err(io::Error::from(ErrorKind::TimedOut))
 }
 
 /// Writes the bytes, piece by piece. A write that takes nothing is an error. After an error some of the first
 /// bytes are written.
 #[tactic(auto, using(crate::proofs::Adapters::wrote_none, crate::proofs::Adapters::wrote_more, crate::proofs::Adapters::wrote_kept, crate::proofs::Adapters::wrote_front, crate::proofs::Adapters::wrote_all))]
-fn write_each<W: Write>(to: &mut W, bytes: &[u8]) -> io::Result<()>
+pub fn write_each<W: Write>(to: &mut W, bytes: &[u8]) -> io::Result<()>
     ensures whole { OnOk result (Appends (W.contents to.old) (W.contents to.new) bytes.now) }
     ensures part { AppendsFront (W.contents to.old) (W.contents to.new) bytes.now }
+    ensures not_interrupted { IfErr result (λ e. error_kind e ≢ ErrorKind.Interrupted) }
 {
     let mut rest = bytes;
     while !rest.is_empty() {
-        let count = to.write(rest)?;
+        let count = write_again(to, rest)?;
         if count == 0 {
             return Err(io::Error::from(ErrorKind::WriteZero));
         }
         rest = &rest[count..];
     }
     Ok(())
+}
+
+/// Writes once, and again where a signal interrupts the write, which has then taken nothing.
+fn write_again<W: Write>(to: &mut W, piece: &[u8]) -> io::Result<usize>
+    ensures bound { WritesAtMost result piece.now }
+    ensures bytes { WriteAppends (W.contents to.old) (W.contents to.new) result piece.now }
+    ensures not_interrupted { IfErr result (λ e. error_kind e ≢ ErrorKind.Interrupted) }
+{
+    for _ in 0..TRIES {
+        match to.write(piece) {
+            Err(error) if error.kind() == ErrorKind::Interrupted => {}
+            answer => return answer,
+        }
+    }
+    Err(io::Error::from(ErrorKind::TimedOut))
+}
+
+/// Flushes, and again where a signal interrupts it.
+fn flush_again<W: Write>(to: &mut W) -> io::Result<()>
+    ensures bytes { Keeps (W.contents to.old) (W.contents to.new) }
+    ensures not_interrupted { IfErr result (λ e. error_kind e ≢ ErrorKind.Interrupted) }
+{
+    for _ in 0..TRIES {
+        match to.flush() {
+            Err(error) if error.kind() == ErrorKind::Interrupted => {}
+            answer => return answer,
+        }
+    }
+    Err(io::Error::from(ErrorKind::TimedOut))
 }
 
 /// A stream of output, which is flushed with each piece.
@@ -176,7 +219,8 @@ impl<W: Write + Drop> Sink for Stream<W> {
 fn put_flushed<W: Write>(to: &mut W, piece: &[u8]) -> io::Result<()>
     ensures whole { OnOk result (Appends (W.contents to.old) (W.contents to.new) piece.now) }
     ensures part { AppendsFront (W.contents to.old) (W.contents to.new) piece.now }
+    ensures not_interrupted { IfErr result (λ e. error_kind e ≢ ErrorKind.Interrupted) }
 {
     write_each(to, piece)?;
-    to.flush()
+    flush_again(to)
 }

@@ -1,48 +1,75 @@
-//! The line that a status puts on the error stream. No clause speaks of it: tests show its text.
+//! The line that a status puts on the error stream. No clause speaks of the whole line: tests show its text.
+//! The names in it are put by `push_name`, so that it stays one line.
 
 ghost use Rattle.std.specs.Prelude.{◌≡◌};
 
+#[cfg(test)]
+mod tests;
+
 use crate::status::{Status, Target};
 use cm_base::Refused;
-use cm_io::Sink;
+use cm_io::{Sink, push_name};
 use std::alloc::{AllocError, Global};
 
-/// The line of a status, where it has one. `name` is that of the file that the status speaks of.
-fn line_of(alloc: Global, status: &Status, name: &str) -> Result<Option<String>, AllocError> {
+/// The line of a status that speaks of a file. `name` is that file's.
+fn line_of(alloc: Global, status: &Status, name: &str) -> Result<Option<Vec<u8>>, AllocError> {
     let line = match status {
-        Status::Ok => return Ok(None),
-        Status::Usage => String::from_str(alloc, "usage\n")?,
-        Status::Absent(_) => format!(in alloc; "absent {name}\n")?,
-        Status::ReadFault(_) => format!(in alloc; "read fault {name}\n")?,
-        Status::TooBig(_, _) => format!(in alloc; "too big {name}\n")?,
+        Status::Absent(_) => file_line(alloc, "absent ", name)?,
+        Status::ReadFault(_) => file_line(alloc, "read fault ", name)?,
+        Status::TooBig(_, _) => file_line(alloc, "too big ", name)?,
         Status::Refused(refused) => refused_line(alloc, refused, name)?,
-        Status::WriteFault(Target::Out) => String::from_str(alloc, "write fault out\n")?,
-        Status::WriteFault(Target::File) => format!(in alloc; "write fault {name}\n")?,
-        Status::NoMemory => String::from_str(alloc, "no memory\n")?,
+        Status::WriteFault(Target::File) => file_line(alloc, "write fault ", name)?,
         _ => return Ok(None),
     };
     Ok(Some(line))
 }
 
-/// `refused CAUSE NAME:LINE:COLUMN`, and for a cycle the paths of its leaves.
-fn refused_line(alloc: Global, refused: &Refused, name: &str) -> Result<String, AllocError> {
-    let cause = refused.cause;
-    let (line, column) = (refused.place.line, refused.place.column);
-    let mut text = format!(in alloc; "refused {cause:?} {name}:{line}:{column}")?;
-    for (number, path) in refused.cycle.as_slice().iter().enumerate() {
-        text.push_str(if number == 0 { " cycle " } else { " " })?;
-        text.push_str(path.as_str())?;
-    }
-    text.push_str("\n")?;
-    Ok(text)
+/// The words and the name of a file.
+fn file_line(alloc: Global, words: &str, name: &str) -> Result<Vec<u8>, AllocError> {
+    let mut line = Vec::from_slice(alloc, words.as_bytes())?;
+    push_name(&mut line, name)?;
+    line.push(b'\n')?;
+    Ok(line)
 }
 
-/// Puts the status's line, and gives the status back. A line that can't be put changes nothing.
+/// `refused CAUSE NAME:LINE:COLUMN`, and for a cycle the paths of its leaves.
+fn refused_line(alloc: Global, refused: &Refused, name: &str) -> Result<Vec<u8>, AllocError> {
+    let cause = refused.cause;
+    let (at_line, at_column) = (refused.place.line, refused.place.column);
+    let words = format!(in alloc; "refused {cause:?} ")?;
+    let place = format!(in alloc; ":{at_line}:{at_column}")?;
+    let mut line = Vec::from_slice(alloc, words.as_str().as_bytes())?;
+    push_name(&mut line, name)?;
+    line.extend_from_slice(place.as_str().as_bytes())?;
+    for (number, path) in refused.cycle.as_slice().iter().enumerate() {
+        let before: &str = if number == 0 { " cycle " } else { " " };
+        line.extend_from_slice(before.as_bytes())?;
+        push_name(&mut line, path.as_str())?;
+    }
+    line.push(b'\n')?;
+    Ok(line)
+}
+
+/// Puts the status's line, and gives the status back. A line that can't be made or put changes nothing. Those
+/// of `Usage` and `NoMemory` take no memory.
 pub fn told<E: Sink>(alloc: Global, err: &mut E, status: Status, name: &str) -> Status
     ensures { result ≡ status }
 {
-    if let Ok(Some(line)) = line_of(alloc, &status, name) {
-        let _ = err.put(line.as_str().as_bytes());
+    match &status {
+        Status::Usage => {
+            let _ = err.put(b"usage\n");
+        }
+        Status::NoMemory => {
+            let _ = err.put(b"no memory\n");
+        }
+        Status::WriteFault(Target::Out) => {
+            let _ = err.put(b"write fault out\n");
+        }
+        other => {
+            if let Ok(Some(line)) = line_of(alloc, other, name) {
+                let _ = err.put(&line);
+            }
+        }
     }
     status
 }

@@ -1,7 +1,7 @@
 ghost use Rattle.std.specs.Prelude.{◌≡◌};
 ghost use Rattle.render_program.specs.Statuses.{number_of};
 
-use cm_base::{FormFault, Refused};
+use cm_base::{Fail, FormFault, NoMemory, Refused};
 use wasm_tree::ModuleRefused;
 
 /// A file that a command reads. Sources count from 1, in the order of the manifest.
@@ -70,6 +70,31 @@ impl Status {
             Status::WriteFault(_) => 12,
             Status::ListenerFault(_) => 13,
             Status::NoMemory => 14,
+        }
+    }
+}
+
+impl From<NoMemory> for Status {
+    ghost use Rattle.std.specs.Prelude.{◌≡◌};
+    ghost use Rattle.render_program.specs.declared.status.Status.TheVariants.{NoMemory as LacksMemory};
+
+    ghost from_gives = { λ _ status. status ≡ LacksMemory };
+
+    fn from(_error: NoMemory) -> Status {
+        Status::NoMemory
+    }
+}
+
+impl From<Fail> for Status {
+    ghost use Rattle.std.specs.Prelude.{◌≡◌};
+    ghost use Rattle.render_program.specs.Statuses.{status_of};
+
+    ghost from_gives = { λ fail status. status ≡ status_of fail };
+
+    fn from(fail: Fail) -> Status {
+        match fail {
+            Fail::Refused(refused) => Status::Refused(refused),
+            Fail::NoMemory => Status::NoMemory,
         }
     }
 }

@@ -28,22 +28,16 @@ const MODULE: [u8; 123] = [
     0x01, 0x00, 0x03, 0x6F, 0x75, 0x74, 0x04, 0x01, 0x01, 0x00, 0x00, // out
 ];
 
-/// A manifest and a source under the names of the tests, where they are there.
-fn files(
-    alloc: Global,
-    manifest: Option<&[u8]>,
-    source: Option<&[u8]>,
-) -> Result<FileList, AllocError> {
+/// A file's name and its bytes.
+type File<'a> = (&'a str, &'a [u8]);
+
+const BOTH: [File<'static>; 2] = [("p.cmajorpatch", MANIFEST), ("p.cmajor", SOURCE)];
+
+fn files(alloc: Global, given: &[File]) -> Result<FileList, AllocError> {
     let mut files = Items::new(alloc);
-    if let Some(bytes) = manifest {
+    for (name, bytes) in given {
         files.push((
-            Name::from_str(alloc, "p.cmajorpatch")?,
-            Bytes::from_slice(alloc, bytes)?,
-        ))?;
-    }
-    if let Some(bytes) = source {
-        files.push((
-            Name::from_str(alloc, "p.cmajor")?,
+            Name::from_str(alloc, name)?,
             Bytes::from_slice(alloc, bytes)?,
         ))?;
     }
@@ -53,11 +47,22 @@ fn files(
 fn folder(
     rt: &impl Abort,
     alloc: Global,
-    files: FileList,
+    given: &[File],
     failing: &[u64],
 ) -> Result<MemoryFolder, AllocError> {
+    let files = files(alloc, given)?;
     assert!(rt; has_distinct_names(&files));
     Ok(MemoryFolder::new(files, Items::from_slice(alloc, failing)?))
+}
+
+/// Whether the folder still holds these files.
+fn holds(folder: &MemoryFolder, given: &[File]) -> bool {
+    for (name, bytes) in given {
+        if folder.held(name) != Some(*bytes) {
+            return false;
+        }
+    }
+    true
 }
 
 fn words(alloc: Global, words: &[&str]) -> Result<Vec<String>, AllocError> {
@@ -98,12 +103,10 @@ const COMPILE: [&str; 3] = ["compile", "p.cmajorpatch", "m.wasm"];
 #[test]
 fn the_example_compiles(rt: HostRuntime) -> Result<(), AllocError> {
     let alloc = rt.alloc();
-    let held = files(alloc, Some(MANIFEST), Some(SOURCE))?;
-    let mut folder = folder(&rt, alloc, held, &[])?;
+    let mut folder = folder(&rt, alloc, &BOTH, &[])?;
     expect(&rt, alloc, &COMPILE, &mut folder, 0, b"")?;
     assert!(&rt; folder.held("m.wasm") == Some(&MODULE));
-    assert!(&rt; folder.held("p.cmajor") == Some(SOURCE));
-    assert!(&rt; folder.held("p.cmajorpatch") == Some(MANIFEST));
+    assert!(&rt; holds(&folder, &BOTH));
     Ok(())
 }
 
@@ -129,75 +132,100 @@ fn a_patch_is_refused(rt: HostRuntime) -> Result<(), AllocError> {
         ),
     ];
     for (manifest, source, line) in rows {
-        let held = files(alloc, Some(manifest), Some(source))?;
-        let mut folder = folder(&rt, alloc, held, &[])?;
+        let given = [
+            ("p.cmajorpatch", manifest),
+            ("p.cmajor", source),
+            ("q.cmajor", SOURCE),
+            ("m.wasm", b"old"),
+        ];
+        let mut folder = folder(&rt, alloc, &given, &[])?;
         expect(&rt, alloc, &COMPILE, &mut folder, 5, line)?;
-        assert!(&rt; folder.held("m.wasm").is_none());
-        assert!(&rt; folder.held("p.cmajor") == Some(source));
+        assert!(&rt; holds(&folder, &given));
     }
     Ok(())
 }
 
 #[test]
-fn files_fail(rt: HostRuntime) -> Result<(), AllocError> {
+fn a_file_is_absent(rt: HostRuntime) -> Result<(), AllocError> {
     let alloc = rt.alloc();
-    let rows: [(Option<&[u8]>, Option<&[u8]>, u64, u8, &[u8]); 5] = [
-        (None, Some(SOURCE), 9, 2, b"absent p.cmajorpatch\n"),
-        (Some(MANIFEST), None, 9, 2, b"absent p.cmajor\n"),
-        (
-            Some(MANIFEST),
-            Some(SOURCE),
-            0,
-            3,
-            b"read fault p.cmajorpatch\n",
-        ),
-        (Some(MANIFEST), Some(SOURCE), 1, 3, b"read fault p.cmajor\n"),
-        (Some(MANIFEST), Some(SOURCE), 2, 12, b"write fault m.wasm\n"),
+    let in_folder: [File; 2] = [("a/b/p.cmajorpatch", MANIFEST), ("p.cmajor", SOURCE)];
+    let rows: [(&[File], &str, &[u8]); 3] = [
+        (&BOTH[1..], "p.cmajorpatch", b"absent p.cmajorpatch\n"),
+        (&BOTH[..1], "p.cmajorpatch", b"absent p.cmajor\n"),
+        (&in_folder, "a/b/p.cmajorpatch", b"absent a/b/p.cmajor\n"),
     ];
-    for (manifest, source, failing, status, line) in rows {
-        let held = files(alloc, manifest, source)?;
-        let mut folder = folder(&rt, alloc, held, &[failing])?;
-        expect(&rt, alloc, &COMPILE, &mut folder, status, line)?;
-        assert!(&rt; folder.held("p.cmajorpatch") == manifest);
-        assert!(&rt; folder.held("p.cmajor") == source);
+    for (given, manifest, line) in rows {
+        let mut folder = folder(&rt, alloc, given, &[])?;
+        let words = ["compile", manifest, "m.wasm"];
+        expect(&rt, alloc, &words, &mut folder, 2, line)?;
+        assert!(&rt; holds(&folder, given));
         assert!(&rt; folder.held("m.wasm").is_none());
     }
     Ok(())
 }
 
+/// Each call of the folder fails in turn, and then none of those that there are.
 #[test]
-fn files_are_too_big(rt: HostRuntime) -> Result<(), AllocError> {
+fn a_call_fails(rt: HostRuntime) -> Result<(), AllocError> {
     let alloc = rt.alloc();
-    let long = vec![in alloc; b' '; 1_048_577]?;
-    let held = files(alloc, Some(&long), Some(SOURCE))?;
-    let mut first = folder(&rt, alloc, held, &[])?;
-    expect(
-        &rt,
-        alloc,
-        &COMPILE,
-        &mut first,
-        4,
-        b"too big p.cmajorpatch\n",
-    )?;
-    let held = files(alloc, Some(MANIFEST), Some(&long))?;
-    let mut second = folder(&rt, alloc, held, &[])?;
-    expect(&rt, alloc, &COMPILE, &mut second, 4, b"too big p.cmajor\n")
+    let rows: [(u64, u8, &[u8]); 4] = [
+        (0, 3, b"read fault p.cmajorpatch\n"),
+        (1, 3, b"read fault p.cmajor\n"),
+        (2, 12, b"write fault m.wasm\n"),
+        (3, 0, b""),
+    ];
+    for (failing, status, line) in rows {
+        let mut folder = folder(&rt, alloc, &BOTH, &[failing])?;
+        expect(&rt, alloc, &COMPILE, &mut folder, status, line)?;
+        assert!(&rt; holds(&folder, &BOTH));
+        assert!(&rt; folder.held("m.wasm").is_some() == (status == 0));
+    }
+    Ok(())
+}
+
+/// The text, with spaces behind it up to this length.
+fn padded(alloc: Global, text: &[u8], length: usize) -> Result<Vec<u8>, AllocError> {
+    let mut bytes = Vec::from_slice(alloc, text)?;
+    for _ in text.len()..length {
+        bytes.push(b' ')?;
+    }
+    Ok(bytes)
+}
+
+#[test]
+fn a_file_is_as_long_as_it_may_be_or_longer(rt: HostRuntime) -> Result<(), AllocError> {
+    let alloc = rt.alloc();
+    let rows: [(usize, usize, u8, &[u8]); 3] = [
+        (1_048_576, 1_048_576, 0, b""),
+        (1_048_577, 0, 4, b"too big p.cmajorpatch\n"),
+        (0, 1_048_577, 4, b"too big p.cmajor\n"),
+    ];
+    for (manifest, source, status, line) in rows {
+        let manifest = padded(alloc, MANIFEST, manifest)?;
+        let source = padded(alloc, SOURCE, source)?;
+        let given: [File; 2] = [("p.cmajorpatch", &manifest), ("p.cmajor", &source)];
+        let mut folder = folder(&rt, alloc, &given, &[])?;
+        expect(&rt, alloc, &COMPILE, &mut folder, status, line)?;
+    }
+    Ok(())
 }
 
 #[test]
 fn words_are_no_command(rt: HostRuntime) -> Result<(), AllocError> {
     let alloc = rt.alloc();
-    let rows: [&[&str]; 5] = [
+    let rows: [&[&str]; 7] = [
         &[],
+        &["compile"],
         &["compile", "p.cmajorpatch"],
         &["compile", "p.cmajorpatch", ""],
+        &["compile", "", "m.wasm"],
         &["Compile", "p.cmajorpatch", "m.wasm"],
         &["compile", "p.cmajorpatch", "m.wasm", "x"],
     ];
     for words in rows {
-        let held = files(alloc, Some(MANIFEST), Some(SOURCE))?;
-        let mut folder = folder(&rt, alloc, held, &[])?;
+        let mut folder = folder(&rt, alloc, &BOTH, &[])?;
         expect(&rt, alloc, words, &mut folder, 1, b"usage\n")?;
+        assert!(&rt; holds(&folder, &BOTH));
     }
     Ok(())
 }

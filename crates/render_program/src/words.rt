@@ -1,34 +1,43 @@
-ghost use Rattle.std.specs.Prelude.{◌≡◌, List, ℕ, map, IfSome, IsNone, ◌↔◌, None, Some, string_bytes, MatchOption, ◌∷◌, []};
-ghost use Rattle.render_program.specs.Words.{command_of};
+//! The words of a command line.
 
-/// The words of `compile M OUT`.
+ghost use Rattle.std.specs.Prelude.{◌≡◌, map, string_bytes};
+ghost use Rattle.std.specs.Option.{option_map};
+ghost use Rattle.render_program.specs.Words.{command_of, compile_of, meaning};
+
+/// What the words ask for.
 #[derive(Clone, Copy, Debug)]
-pub struct CompileWords<'a> {
-    /// The manifest's name.
-    pub manifest: &'a str,
-    /// The name of the file to write.
-    pub out: &'a str,
+pub enum Command<'a> {
+    /// Compile the patch of a manifest, and write its module to a file.
+    Compile {
+        /// The manifest's name.
+        manifest: &'a str,
+        /// The name of the file to write.
+        out: &'a str,
+    },
 }
 
-/// The command that the words are: `compile` and two names that aren't empty.
-pub fn compile_words(words: &[String]) -> Option<CompileWords<'_>>
-    ensures { MatchOption result (command_of (map string_bytes words.now) ≡ None) (λ c. command_of (map string_bytes words.now) ≡ Some (record { manifest = c.manifest.now; out = c.out.now })) }
+/// The command that the words are.
+pub fn read_words(words: &[String]) -> Option<Command<'_>>
+    ensures { option_map meaning result ≡ command_of (map string_bytes words.now) }
 {
     let (name, words) = words.split_first()?;
-    let (manifest, words) = words.split_first()?;
-    let (out, words) = words.split_first()?;
-    match words.split_first() {
-        Some(_) => None,
-        None => compile_of(name.as_str(), manifest.as_str(), out.as_str()),
+    if name.as_str() == "compile" {
+        return read_compile(words);
     }
+    None
 }
 
-fn compile_of<'a>(name: &str, manifest: &'a str, out: &'a str) -> Option<CompileWords<'a>>
-    ensures { MatchOption result (command_of (name.now ∷ manifest.now ∷ out.now ∷ []) ≡ None) (λ c. command_of (name.now ∷ manifest.now ∷ out.now ∷ []) ≡ Some (record { manifest = c.manifest.now; out = c.out.now })) }
+/// The command of these words after `compile`: two names that aren't empty.
+fn read_compile(words: &[String]) -> Option<Command<'_>>
+    ensures { option_map meaning result ≡ compile_of (map string_bytes words.now) }
 {
-    if name == "compile" && !manifest.is_empty() && !out.is_empty() {
-        Some(CompileWords { manifest, out })
-    } else {
-        None
+    let (manifest, words) = words.split_first()?;
+    let (out, words) = words.split_first()?;
+    if words.is_empty() && !manifest.is_empty() && !out.is_empty() {
+        return Some(Command::Compile {
+            manifest: manifest.as_str(),
+            out: out.as_str(),
+        });
     }
+    None
 }

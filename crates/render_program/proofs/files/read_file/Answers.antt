@@ -1,8 +1,17 @@
 use Rattle.std.proofs.Common.{refl}
-use Rattle.render_program.proofs.FileLemmas.{too_big}
+use Rattle.render_program.specs.Steps.{ReadFailed, OutOfMemory}
+use Rattle.render_program.proofs.FileLemmas.{long_stop, absent_stop}
 use Rattle.render_program.proofs.files.read_file.Goals as goal
 
-pub returns-then-length-most-clause-failure : goal.returns-then-length-most-clause-failure
-returns-then-length-most-clause-failure g c =
-    let t = too_big c.args.file c.limit-most.result c.len-length.result _ c.args.name.now _ c.limit-most.ensures c.len-length.ensures c.in-Bytes.ensures.bytes c.if-length-most.true in
-    (refl, t.0, t.1)
+pub returns-then-length-limit-clause-stopped : goal.returns-then-length-limit-clause-stopped
+returns-then-length-limit-clause-stopped g c =
+    long_stop _ _ c.args.file c.args.limit c.len-length.result c.args.name.now _ c.len-length.ensures c.in-Bytes.ensures.bytes c.requires.least c.if-length-limit.true
+
+pub returns-in-Absent-clause-stopped : goal.returns-in-Absent-clause-stopped
+returns-in-Absent-clause-stopped g c = absent_stop _ _ c.args.file c.args.limit c.args.name.now c.in-Absent.ensures.absent_counted c.in-Absent.ensures.absent_held_not
+
+pub returns-in-Failed-clause-stopped : goal.returns-in-Failed-clause-stopped
+returns-in-Failed-clause-stopped g c = ReadFailed c.args.file refl c.in-Failed.ensures.failed_counted
+
+pub returns-in-NoMemory-clause-stopped : goal.returns-in-NoMemory-clause-stopped
+returns-in-NoMemory-clause-stopped g c = OutOfMemory

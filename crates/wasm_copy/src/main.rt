@@ -1,79 +1,89 @@
 //! Copies a module in its shortest spelling: `wasm_copy IN OUT`. It is the round trip of the reader and the
 //! writer as one call with a contract, and what `bench/` times. `wasm_copy IN` reads the module alone, and so
-//! tells whether the file spells one.
+//! tells whether the file spells one. OUT is written in place. Where nothing is copied, a line on standard error
+//! says why, and the status is 1.
 #![tactic(auto)]
 
 mod round_trip;
+mod stop;
 #[cfg(test)]
 mod tests;
 
+ghost use Rattle.std.specs.Prelude.{◌≤◌, IfOk, length};
+
 use cm_base::limits::MODULE_BYTES;
 use round_trip::shortened;
-use std::io::Read;
+use std::alloc::AllocError;
+use std::io::{ErrorKind, Read, Write};
 use std::process::ExitCode;
-use std::rt::Files;
-use std::{env, fs, io};
+use std::rt::{Env, Files};
+use std::{env, fs};
+use stop::{Stop, line_of};
 use wasm_reader::read_module;
-use wasm_tree::ModuleFail;
 
-/// Says why a file isn't read as a module.
-fn refuse<R: AllocGlobal + Eprint>(rt: &R, fail: &ModuleFail) -> io::Result<u8> {
-    match fail {
-        ModuleFail::Refused(refused) => {
-            let (rule, offset) = (refused.rule, refused.offset);
-            eprintln!(rt; "refused {rule:?} {offset}")?;
-        }
-        ModuleFail::NoMemory => eprintln!(rt; "no memory")?,
-    }
-    Ok(1)
-}
-
-/// The bytes of a file, or one more than a module may have where it has more.
-fn front<R: Files + AllocGlobal>(rt: &R, from: &str) -> io::Result<Vec<u8>> {
+/// The bytes of a file that isn't longer than a module may be.
+fn module_bytes<R: Files + AllocGlobal>(rt: &R, from: &str) -> Result<Vec<u8>, Stop>
+    ensures { IfOk result (λ bytes. length bytes.items ≤ MODULE_BYTES) }
+{
     let mut bytes = Vec::new(rt.alloc());
-    let mut file = fs::open(rt, from)?.take(MODULE_BYTES + 1);
-    file.read_to_end(&mut bytes)?;
-    Ok(bytes)
+    let Ok(file) = fs::open(rt, from) else {
+        return Err(Stop::CannotRead);
+    };
+    match file.take(MODULE_BYTES + 1).read_to_end(&mut bytes) {
+        Ok(_) if bytes.len() as u64 > MODULE_BYTES => Err(Stop::TooBig),
+        Ok(_) => Ok(bytes),
+        Err(error) if error.kind() == ErrorKind::OutOfMemory => Err(Stop::NoMemory),
+        Err(_) => Err(Stop::CannotRead),
+    }
 }
 
-/// Copies the file to the other, if there is one, and says what is wrong with it where it is no module.
-fn copy<R: Files + AllocGlobal + Eprint>(rt: &R, from: &str, to: Option<&str>) -> io::Result<u8> {
-    let Ok(bytes) = front(rt, from) else {
-        eprintln!(rt; "can't read {from}")?;
-        return Ok(1);
-    };
-    if bytes.len() as u64 > MODULE_BYTES {
-        eprintln!(rt; "too big {from}")?;
-        return Ok(1);
-    }
+/// Copies the file to the other, if there is one.
+fn copy<R: Files + AllocGlobal>(rt: &R, from: &str, to: Option<&str>) -> Result<(), Stop> {
+    let bytes = module_bytes(rt, from)?;
     let Some(to) = to else {
         return match read_module(rt.alloc(), &bytes) {
-            Ok(_) => Ok(0),
-            Err(fail) => refuse(rt, &fail),
+            Ok(_) => Ok(()),
+            Err(fail) => Err(Stop::Module(fail)),
         };
     };
     match shortened(rt.alloc(), &bytes) {
-        Ok(short) => write(rt, to, short.as_slice()),
-        Err(fail) => refuse(rt, &fail),
+        Ok(short) => match fs::write(rt, to, short.as_slice()) {
+            Ok(()) => Ok(()),
+            Err(_) => Err(Stop::CannotWrite),
+        },
+        Err(fail) => Err(Stop::Module(fail)),
     }
 }
 
-/// Makes the bytes the whole file, and says where that can't be.
-fn write<R: Files + Eprint>(rt: &R, to: &str, bytes: &[u8]) -> io::Result<u8> {
-    if fs::write(rt, to, bytes).is_err() {
-        eprintln!(rt; "can't write {to}")?;
-        return Ok(1);
-    }
-    Ok(0)
-}
-
-fn main(rt: HostRuntime) -> io::Result<ExitCode> {
-    let mut words = env::args(&rt)?.skip(1);
+/// Does what the words ask for, and gives the line that tells why it can't be done.
+fn line_of_words<R: Files + Env + AllocGlobal>(rt: &R) -> Result<Option<Vec<u8>>, AllocError> {
+    let mut words = match env::args(rt) {
+        Ok(words) => words.skip(1),
+        Err(error) if error.kind() == ErrorKind::InvalidData => {
+            return Ok(Some(line_of(rt.alloc(), &Stop::NotText, "", "")?));
+        }
+        Err(_) => return Err(AllocError),
+    };
     let (Some(from), to, None) = (words.next(), words.next(), words.next()) else {
-        eprintln!(rt; "usage: wasm_copy IN [OUT]")?;
-        return Ok(ExitCode::from(1));
+        return Ok(Some(line_of(rt.alloc(), &Stop::Usage, "", "")?));
     };
     let to = to.as_ref().map(|to| to.as_str());
-    let status = copy(&rt, from.as_str(), to)?;
-    Ok(ExitCode::from(status))
+    match copy(rt, from.as_str(), to) {
+        Ok(()) => Ok(None),
+        Err(stop) => Ok(Some(line_of(rt.alloc(), &stop, from.as_str(), to.unwrap_or(""))?)),
+    }
+}
+
+fn main(rt: HostRuntime) -> ExitCode {
+    match line_of_words(&rt) {
+        Ok(None) => ExitCode::from(0),
+        Ok(Some(line)) => {
+            let _ = rt.stderr().write_all(&line);
+            ExitCode::from(1)
+        }
+        Err(_) => {
+            let _ = rt.stderr().write_all(b"no memory\n");
+            ExitCode::from(1)
+        }
+    }
 }

@@ -4,18 +4,15 @@
 #
 # usage: bench/modules.sh [BYTES]     (16,000,000 where none are given)
 set -eu
-cd "$(dirname "$0")/.."
+CDPATH='' cd -- "$(dirname -- "$0")/.."
 size=${1:-16000000}
 dir=$(mktemp -d)
 trap 'rm -rf "$dir"' EXIT
 python3 bench/large_module.py "$size" "$dir/in.wasm"
 bytes=$(stat -c %s "$dir/in.wasm")
 
+./build wasm_copy
 copy=crates/wasm_copy/out/wasm_copy
-if [ ! -x "$copy" ]; then
-    echo "proving and building wasm_copy" >&2
-    (cd crates/wasm_copy && rt run -- "$PWD/data/in.wasm" "$dir/small.wasm" >&2)
-fi
 
 row() {
     local label=$1 start end

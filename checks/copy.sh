@@ -1,21 +1,9 @@
 #!/usr/bin/env bash
 # wasm_copy over real files, of which the contracts say nothing: its lines, its statuses, and what it writes.
 set -u
-cd "$(dirname "$0")/.." || exit 2
-program=crates/wasm_copy/out/wasm_copy
-if [ ! -x "$program" ]; then
-    echo "skipped: $program isn't built"
-    exit 0
-fi
-dir=$(mktemp -d) || exit 2
-trap 'rm -rf "$dir"' EXIT
-failed=0
-
+CDPATH='' cd -- "$(dirname -- "$0")/.." || exit 2
 . checks/expect.bash || exit 2
-
-same() {
-    cmp "$1" "$2" || failed=1
-}
+take_proved wasm_copy
 
 # A module with one function type, with its size and counts in more bytes than they need, and in the fewest.
 printf '\0asm\1\0\0\0\1\207\0\201\0\140\200\200\0\0' >"$dir/long.wasm"
@@ -25,16 +13,17 @@ head -c 33554433 /dev/zero >"$dir/big.wasm"
 
 expect 1 "usage: wasm_copy IN [OUT]"
 expect 1 "usage: wasm_copy IN [OUT]" "$dir/long.wasm" "$dir/out.wasm" more
+expect 1 "a name isn't UTF-8" "$dir/long.wasm" "$dir/"$'\xff'
+expect 1 "a name isn't UTF-8" $'\xc3'
 expect 1 "refused Header 4" "$dir/version.wasm"
 expect 1 "refused Header 4" "$dir/version.wasm" "$dir/out.wasm"
 expect 1 "too big $dir/big.wasm" "$dir/big.wasm" "$dir/out.wasm"
 expect 1 "can't read $dir/none.wasm" "$dir/none.wasm" "$dir/out.wasm"
 expect 1 "can't read $dir" "$dir" "$dir/out.wasm"
-if [ -e "$dir/out.wasm" ]; then
-    echo "a file was made for a module that was refused"
-    failed=1
-fi
-expect 1 "can't write $dir/none/out.wasm" "$dir/long.wasm" "$dir/none/out.wasm"
+expect 1 "can't read $dir/a\\x0ab" "$dir/"$'a\nb'
+[ -e "$dir/out.wasm" ] && differs "a file was made for a module that was refused"
+expect 1 "can't write $dir/none\\x7f/out.wasm" "$dir/long.wasm" "$dir/none"$'\x7f/out.wasm'
+expect 1 "can't write /dev/full" "$dir/long.wasm" /dev/full
 expect 0 "" "$dir/long.wasm"
 expect 0 "" "$dir/long.wasm" "$dir/out.wasm"
 same "$dir/out.wasm" "$dir/short.wasm"
@@ -44,7 +33,15 @@ if command -v python3 >/dev/null; then
     python3 bench/large_module.py 33500000 "$dir/large.wasm"
     expect 0 "" "$dir/large.wasm" "$dir/copy.wasm"
     same "$dir/large.wasm" "$dir/copy.wasm"
+
+    # too little memory for what the file holds
+    lacking() (
+        ulimit -v 30000
+        exec "$built" "$@"
+    )
+    program=lacking
+    expect 1 "no memory" "$dir/large.wasm"
 else
-    echo "skipped: no python3 makes the large module"
+    skipped "no python3 makes the large module"
 fi
-exit $failed
+exit "$failed"

@@ -1,17 +1,15 @@
 #!/usr/bin/env bash
 # The JavaScript host: its own tests over modules made by hand, and then a run of the compiled example.
 set -u
-cd "$(dirname "$0")/.." || exit 2
-if ! command -v node >/dev/null; then
-    echo "skipped: no node"
-    exit 0
-fi
-node checks/host-selftest.mjs || exit 1
+CDPATH='' cd -- "$(dirname -- "$0")/.." || exit 2
+. checks/expect.bash || exit 2
+command -v node >/dev/null || skip "no node"
 
-dir=$(mktemp -d) || exit 2
-trap 'rm -rf "$dir"' EXIT
-./hezgrolk compile examples/through/through.cmajorpatch "$dir/through.wasm" || exit 1
-node checks/listed-module.mjs >"$dir/listed.wasm" || exit 1
-cmp "$dir/through.wasm" "$dir/listed.wasm" || exit 1
-node examples/host/run.mjs "$dir/through.wasm" 1 2 3 >"$dir/lines" || exit 1
-printf 'frame %d out=%d\n' 0 1 1 2 2 3 | diff - "$dir/lines" || exit 1
+node checks/host-selftest.mjs || failed=1
+take_proved render_program
+expect 0 "" compile examples/through/through.cmajorpatch "$dir/through.wasm"
+node checks/listed-module.mjs >"$dir/listed.wasm" || failed=1
+same "$dir/through.wasm" "$dir/listed.wasm"
+node examples/host/run.mjs "$dir/through.wasm" 1 2 3 >"$dir/lines" || failed=1
+printf 'frame %d out=%d\n' 0 1 1 2 2 3 | diff - "$dir/lines" || failed=1
+exit "$failed"

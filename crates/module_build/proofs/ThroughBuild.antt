@@ -7,7 +7,8 @@ use Rattle.wasm_tree.specs.declared.module.Custom.{Custom}
 use Rattle.wasm_tree.specs.declared.module.GlobalVar.{GlobalVar}
 use Rattle.wasm_tree.specs.Section.{Spelled_section}
 use Rattle.wasm_tree.specs.Spelled.{IsConstant}
-use Rattle.wasm_writer.specs.Spelling.{IsWritable, IsFormed, unsigned_bytes, unsigned_within, signed_bytes, signed_within, custom_contents}
+use Rattle.wasm_tree.specs.Valid.{IsBodyWithinLimits}
+use Rattle.wasm_writer.specs.Spelling.{IsWritable, unsigned_bytes, unsigned_within, signed_bytes, signed_within, custom_contents}
 use Rattle.std.proofs.lemmas.List.Elements.{All-from_recursion}
 use Rattle.module_build.specs.Build.{KeepsPatch, HasPages}
 use Rattle.module_build.proofs.Source.{is_name-refl, is_name-distinct}
@@ -37,7 +38,7 @@ writable described short = record {
   lists = record { types = lit< tt; imports = lit< tt; functions = lit< tt; memory = lit< tt; globals = lit< tt; exports = lit< tt; codes = lit< tt; segments = lit< tt };
   customs = All-from_recursion (λ (custom : Custom). length (custom_contents custom) < 2 ^ 32) (cmajor_custom described ∷ []) (custom_short described short, tt);
   constant = All-from_recursion (λ (global : GlobalVar). IsConstant global.value) [] tt;
-  formed = All-from_recursion IsFormed (through_module described).codes (record { few = lit≤ tt; closed = refl }, (record { few = lit≤ tt; closed = refl }, tt));
+  formed = All-from_recursion IsBodyWithinLimits (through_module described).codes (record { locals = lit≤ tt; nesting = refl }, (record { locals = lit≤ tt; nesting = refl }, tt));
   sorted = refl;
   bodies = refl;
 }

@@ -16,7 +16,7 @@ use Rattle.wasm_tree.specs.declared.instr.Instr.TheVariants as instr
 use Rattle.wasm_tree.specs.declared.op.LoadOp.TheVariants as load
 use Rattle.wasm_tree.specs.declared.op.StoreOp.TheVariants as store
 use Rattle.wasm_tree.specs.declared.interface.Interface.TheVariants.{Single}
-use Rattle.wasm_tree.specs.Section.{Section, Slot}
+use Rattle.wasm_tree.specs.Section.{CmajorSection, Slot}
 use Rattle.wasm_tree.specs.Spelled.{cmajor}
 use Rattle.wasm_tree.specs.Valid.{no_type, emit_type}
 
@@ -29,7 +29,7 @@ abbrev pub through_slots : List ℕ → List ℕ → List Slot
 through_slots input output =
     record { end = host_stream Input input; address = 0 } ∷ record { end = host_stream Output output; address = 4 } ∷ []
 
-abbrev pub through_section : List ℕ → List ℕ → Section
+abbrev pub through_section : List ℕ → List ℕ → CmajorSection
 through_section input output = record { interface = Single; latency = 0; slots = through_slots input output }
 
 -- the word of the input is copied to the output

@@ -22,7 +22,7 @@ use Rattle.wasm_tree.specs.Reduce.{Seq, Nil, Plain, pieces}
 use Rattle.wasm_tree.specs.Section.{Spelled_section, Spelled_slot, Runs, IsSection, ends_of}
 use Rattle.wasm_tree.specs.Control.{IsClosed}
 use Rattle.wasm_tree.specs.Host.{HasImport, HasExports, IsExported}
-use Rattle.wasm_tree.specs.Valid.{Valid, Index, IsIndexed, IsThere, counts, IsWithinLimits, IsBody, Calls, CallCycle, HasMemory, no_type}
+use Rattle.wasm_tree.specs.Valid.{Valid, Index, IsIndexed, IsThere, counts, IsBodyWithinLimits, IsBody, Calls, CallCycle, HasMemory, no_type}
 use Rattle.wasm_examples.specs.Hosts.{event_module, pageless_module, add_event, body_of, slot_of, three_slots, three_slots_bytes, word_at, one_page, emit_import}
 use Rattle.wasm_examples.proofs.Instructions.{joined, begins}
 
@@ -216,7 +216,7 @@ add_index = record {
   segments = tt;
 }
 
-few_locals : (code : List Instr) → IsClosed code → IsWithinLimits (body_of code)
+few_locals : (code : List Instr) → IsClosed code → IsBodyWithinLimits (body_of code)
 few_locals code closed = record { locals = lit≤ tt; nesting = closed }
 
 -- each rule is kept

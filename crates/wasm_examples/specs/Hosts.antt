@@ -24,7 +24,7 @@ use Rattle.wasm_tree.specs.declared.op.CompareOp.TheVariants as compare
 use Rattle.wasm_tree.specs.declared.op.LoadOp.TheVariants as load
 use Rattle.wasm_tree.specs.declared.op.StoreOp.TheVariants as store
 use Rattle.wasm_tree.specs.declared.interface.Interface.TheVariants.{Single, Blocks}
-use Rattle.wasm_tree.specs.Section.{Section, Slot}
+use Rattle.wasm_tree.specs.Section.{CmajorSection, Slot}
 use Rattle.wasm_tree.specs.Spelled.{cmajor}
 use Rattle.wasm_tree.specs.Valid.{no_type, emit_type}
 use Rattle.wasm_tree.specs.HostRun.{host_run, host_part}
@@ -33,7 +33,7 @@ abbrev pub slot_of : Flow → Kind → List ℕ → ℕ → Slot
 slot_of flow kind name address = record { end = record { flow = flow; kind = kind; name = name; shape = Int32 ∷ []; parameter = None }; address = address }
 
 -- an event input at address 0, a stream output at 4, and an event output at 8
-abbrev pub three_slots : Section
+abbrev pub three_slots : CmajorSection
 three_slots =
     record {
       interface = Single;
@@ -119,7 +119,7 @@ part_of_event code value steps number = host_part (event_module code) three_slot
 -- ---- blocks
 
 -- a stream output with an entry for each of two frames
-abbrev pub two_entries : Section
+abbrev pub two_entries : CmajorSection
 two_entries = record { interface = Blocks 2; latency = 0; slots = slot_of Output Stream (codes "out") 0 ∷ [] }
 
 -- 7 for the first frame, and 8 for the second where there is one. Each -1 ends a frame
@@ -151,7 +151,7 @@ run_of_frames steps = host_run frames_module two_entries [] (record { frames = 3
 -- ---- streams, values and parameters
 
 -- a stream input at address 0, a value input at 4 that is a parameter and starts with 2, and a stream output at 8
-abbrev pub mix_slots : Section
+abbrev pub mix_slots : CmajorSection
 mix_slots =
     record {
       interface = Single;

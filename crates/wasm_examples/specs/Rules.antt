@@ -7,14 +7,14 @@ use Rattle.wasm_tree.specs.declared.module.Custom.{Custom}
 use Rattle.wasm_tree.specs.declared.module.Module.{Module}
 use Rattle.wasm_tree.specs.declared.instr.Instr.TheVariants as instr
 use Rattle.wasm_tree.specs.declared.interface.Interface.TheVariants.{Single}
-use Rattle.wasm_tree.specs.Section.{Section}
+use Rattle.wasm_tree.specs.Section.{CmajorSection}
 use Rattle.wasm_tree.specs.Spelled.{cmajor, header}
 use Rattle.wasm_tree.specs.Valid.{no_type, emit_type}
 use Rattle.wasm_examples.specs.Bytes.{empty_module}
 use Rattle.wasm_examples.specs.Hosts.{emit_import, memory_export, function_export, body_of}
 
 -- no endpoint and no latency
-abbrev pub quiet_section : Section
+abbrev pub quiet_section : CmajorSection
 quiet_section = record { interface = Single; latency = 0; slots = [] }
 
 abbrev pub quiet_custom : Custom
@@ -93,6 +93,6 @@ two_results_bytes = header ++ 0x01 ∷ 0x06 ∷ 0x01 ∷ 0x60 ∷ 0x00 ∷ 0x02 
 -- ---- slots
 
 -- an endpoint without scalars at this address
-abbrev pub bare_slot : ℕ → Section
+abbrev pub bare_slot : ℕ → CmajorSection
 bare_slot address =
     record quiet_section { slots = record { end = record { flow = Output; kind = Stream; name = codes "out"; shape = []; parameter = None }; address = address } ∷ [] }

@@ -13,14 +13,14 @@ use Rattle.wasm_tree.specs.declared.op.BinaryOp.TheVariants as binary
 use Rattle.wasm_tree.specs.declared.op.LoadOp.TheVariants as load
 use Rattle.wasm_tree.specs.declared.op.StoreOp.TheVariants as store
 use Rattle.wasm_tree.specs.declared.interface.Interface.TheVariants.{Single, Blocks}
-use Rattle.wasm_tree.specs.Section.{Section, ends_of}
+use Rattle.wasm_tree.specs.Section.{CmajorSection, ends_of}
 use Rattle.wasm_tree.specs.Valid.{no_type, emit_type}
 use Rattle.wasm_tree.specs.HostRun.{Instance, host_run, host_stops}
 use Rattle.wasm_tree.specs.Stopped.{joined_scripts, snapshot_of, resumed_run}
 use Rattle.wasm_examples.specs.Hosts.{slot_of, word_at, body_of, function_export, memory_export, emit_import, one_page}
 
 -- a stream input at address 0, a value input at 4, and a stream output at 8
-abbrev pub sum_slots : Section
+abbrev pub sum_slots : CmajorSection
 sum_slots =
     record { interface = Single; latency = 0; slots = slot_of Input Stream (codes "in") 0 ∷ slot_of Input Value (codes "level") 4 ∷ slot_of Output Stream (codes "sum") 8 ∷ [] }
 
@@ -74,7 +74,7 @@ whole_sum = host_run sum_module sum_slots [] both_scripts 5 9
 -- ---- `emit` as `frames`
 
 -- a stream output with an entry for each of two frames, and an event output at address 8
-abbrev pub ping_slots : Section
+abbrev pub ping_slots : CmajorSection
 ping_slots = record { interface = Blocks 2; latency = 0; slots = slot_of Output Stream (codes "out") 0 ∷ slot_of Output Event (codes "ping") 8 ∷ [] }
 
 -- the imported function is exported as `frames`

@@ -10,7 +10,7 @@ use Rattle.wasm_tree.specs.declared.interface.Interface.TheVariants.{Blocks}
 use Rattle.wasm_tree.specs.declared.module.Module.{Module}
 use Rattle.wasm_tree.specs.HostRun.{Instance, first_instance, module_player}
 use Rattle.wasm_tree.specs.Keeps.{KeepsRuns}
-use Rattle.wasm_tree.specs.Section.{Section}
+use Rattle.wasm_tree.specs.Section.{CmajorSection}
 use Rattle.wasm_tree.specs.Stopped.{KeepsStopped}
 use Rattle.wasm_runs.specs.Blocks.{Waiting, BlocksKeep, Related, OwesBlocks}
 use Rattle.wasm_runs.specs.Calling.{Keeping, CallsKeep, IsFree, CanResume}
@@ -32,7 +32,7 @@ is_free Kept Waits told world instance (inl free) = free
 is_free Kept Waits told world instance (inr waiting) = absurd (cc (waiting.comes))
 
 -- a value is set only where no call waits, and keeps the relation
-sets_related : {World : Type 0} (Kept : Keeping World) (Waits : Waiting World) (m : Module) (section : Section) (source : Source World) → CallsKeep Kept m section source →
+sets_related : {World : Type 0} (Kept : Keeping World) (Waits : Waiting World) (m : Module) (section : CmajorSection) (source : Source World) → CallsKeep Kept m section source →
     (coming : List Inputs) (endpoint : ℕ) (value : List ℤ) (world : World) (instance : Instance) → IsTaken kinds.Value source.ends endpoint value → Related Kept Waits source.player.told [] world instance →
     Related Kept Waits source.player.told coming (source.player.set endpoint value world) ((module_player m section).set endpoint value instance)
 sets_related Kept Waits m section source calls coming endpoint value world instance taken related =
@@ -44,7 +44,7 @@ sets_related Kept Waits m section source calls coming endpoint value world insta
     })
 
 -- each part after the inits
-part_keeps : {World : Type 0} (Kept : Keeping World) (Waits : Waiting World) (m : Module) (section : Section) (size : ℕ) (source : Source World) → section.interface ≡ Blocks (suc size) → CallsKeep Kept m section source →
+part_keeps : {World : Type 0} (Kept : Keeping World) (Waits : Waiting World) (m : Module) (section : CmajorSection) (size : ℕ) (source : Source World) → section.interface ≡ Blocks (suc size) → CallsKeep Kept m section source →
     BlocksKeep Kept Waits m section (suc size) source → (part : Part) (coming : List Inputs) (world : World) (instance : Instance) → IsPart source.ends part → AllByRecursion (AreInputs source.ends) coming →
     Related Kept Waits source.player.told (ahead part coming) world instance → KeepsPart source.cost (Related Kept Waits source.player.told coming) source.player (module_player m section) part coming world instance
 part_keeps Kept Waits m section size source interface calls blocks Init coming world instance is fit related = absurd is
@@ -54,7 +54,7 @@ part_keeps Kept Waits m section size source interface calls blocks (Send frame e
 part_keeps Kept Waits m section size source interface calls blocks (Frame frame inputs) coming world instance is fit related =
     frame_keeps Kept Waits m section source size interface blocks frame inputs coming world instance is fit related
 
-parts_keep : {World : Type 0} (Kept : Keeping World) (Waits : Waiting World) (m : Module) (section : Section) (size : ℕ) (source : Source World) → section.interface ≡ Blocks (suc size) → CallsKeep Kept m section source →
+parts_keep : {World : Type 0} (Kept : Keeping World) (Waits : Waiting World) (m : Module) (section : CmajorSection) (size : ℕ) (source : Source World) → section.interface ≡ Blocks (suc size) → CallsKeep Kept m section source →
     BlocksKeep Kept Waits m section (suc size) source → KeepsParts source.ends source.cost (Related Kept Waits source.player.told) source.player (module_player m section)
 parts_keep Kept Waits m section size source interface calls blocks = record {
   source_grows = calls.grows;
@@ -64,7 +64,7 @@ parts_keep Kept Waits m section size source interface calls blocks = record {
 }
 
 -- what a module of interface 2 owes gives the relation
-blocks_relation : {World : Type 0} (Kept : Keeping World) (Waits : Waiting World) (m : Module) (section : Section) (size : ℕ) (source : Source World) → OwesBlocks Kept Waits m section size source → Relation Kept m section source
+blocks_relation : {World : Type 0} (Kept : Keeping World) (Waits : Waiting World) (m : Module) (section : CmajorSection) (size : ℕ) (source : Source World) → OwesBlocks Kept Waits m section size source → Relation Kept m section source
 blocks_relation Kept Waits m section size source owes = record {
   R = Related Kept Waits source.player.told;
   parts = parts_keep Kept Waits m section size source owes.interface owes.calls owes.blocks;
@@ -76,10 +76,10 @@ blocks_relation Kept Waits m section size source owes = record {
 }
 
 -- the runs of a module of interface 2
-pub blocks_keep : {World : Type 0} (Kept : Keeping World) (Waits : Waiting World) (m : Module) (section : Section) (size : ℕ) (source : Source World) → OwesBlocks Kept Waits m section size source → KeepsRuns source m section
+pub blocks_keep : {World : Type 0} (Kept : Keeping World) (Waits : Waiting World) (m : Module) (section : CmajorSection) (size : ℕ) (source : Source World) → OwesBlocks Kept Waits m section size source → KeepsRuns source m section
 blocks_keep Kept Waits m section size source owes = relation_keeps Kept m section source (blocks_relation Kept Waits m section size source owes)
 
 -- and those that are stopped and resumed
-pub blocks_stopped : {World : Type 0} (Kept : Keeping World) (Waits : Waiting World) (m : Module) (section : Section) (size : ℕ) (source : Source World) → OwesBlocks Kept Waits m section size source → CanResume Kept m section source →
+pub blocks_stopped : {World : Type 0} (Kept : Keeping World) (Waits : Waiting World) (m : Module) (section : CmajorSection) (size : ℕ) (source : Source World) → OwesBlocks Kept Waits m section size source → CanResume Kept m section source →
     KeepsStopped source m section
 blocks_stopped Kept Waits m section size source owes can = stopped_keep Kept m section source (blocks_relation Kept Waits m section size source owes) can

@@ -18,7 +18,7 @@ use Rattle.wasm_tree.specs.HostRun.{Machine, Block, Instance, call_left, no_more
 use Rattle.wasm_tree.specs.Instance.{funcs_of}
 use Rattle.wasm_tree.specs.Keeps.{IsFront}
 use Rattle.wasm_tree.specs.Reduce.{Config, exec, follow}
-use Rattle.wasm_tree.specs.Section.{Section}
+use Rattle.wasm_tree.specs.Section.{CmajorSection}
 use Rattle.wasm_runs.specs.Blocks.{Waiting, StretchMarks, BlockEnds, BlocksKeep, Related}
 use Rattle.wasm_runs.specs.Calling.{Keeping, CallKeeps, CallEnds, IsFree}
 use Rattle.wasm_runs.specs.Follows.{Follows, KeepsPart}
@@ -27,13 +27,13 @@ use Rattle.wasm_runs.proofs.Fronts.{front_of, front_then}
 use Rattle.wasm_runs.proofs.Growth.{stretch_grows}
 use Rattle.wasm_runs.proofs.Heard.{hears_last, hears_spent, hears_more}
 
-abbrev machine_of : Module → Section → ℕ → Machine
+abbrev machine_of : Module → CmajorSection → ℕ → Machine
 machine_of m section steps = record { «module» = m; section = section; steps = steps }
 
 -- ---- marks
 
 -- where frames are left, the call waits
-mark_waits : (m : Module) (section : Section) (steps frame : ℕ) (block : Block) (instance : Instance) (memory : List ℕ) (next : Config) (told : List Item) → block.told + 1 ≢ block.count →
+mark_waits : (m : Module) (section : CmajorSection) (steps frame : ℕ) (block : Block) (instance : Instance) (memory : List ℕ) (next : Config) (told : List Item) → block.told + 1 ≢ block.count →
     marked (machine_of m section steps) frame block instance memory next told
     ≡ Goes (record instance { trace = frame_told section.slots block.told frame memory told; block = Some (record { next = next; told = block.told + 1; count = block.count }) })
 mark_waits m section steps frame block instance memory next told more =
@@ -43,7 +43,7 @@ mark_waits m section steps frame block instance memory next told more =
     ]
 
 -- after the last frame the call ends
-mark_ends : (m : Module) (section : Section) (steps frame : ℕ) (block : Block) (instance : Instance) (memory : List ℕ) (next : Config) (told : List Item) → block.told + 1 ≡ block.count →
+mark_ends : (m : Module) (section : CmajorSection) (steps frame : ℕ) (block : Block) (instance : Instance) (memory : List ℕ) (next : Config) (told : List Item) → block.told + 1 ≡ block.count →
     marked (machine_of m section steps) frame block instance memory next told
     ≡ block_end (machine_of m section steps) frame next (record instance { trace = frame_told section.slots block.told frame memory told })
 mark_ends m section steps frame block instance memory next told last = rw (eq-eqb (block.told + 1) block.count last) refl
@@ -53,7 +53,7 @@ enough_worth : (cost n count : ℕ) → count < cost → count < cost * (n + 1)
 enough_worth cost n count few = let e : cost * (n + 1) ≡ cost * n + cost * 1 = mul-add cost n 1 in omega (arith, e)
 
 -- the end of a call, with more reductions than it takes
-end_goes : {World : Type 0} (Kept : Keeping World) (told : World → List Item) (m : Module) (section : Section) (cost steps frame : ℕ) (next : Config) (world : World) (instance : Instance) →
+end_goes : {World : Type 0} (Kept : Keeping World) (told : World → List Item) (m : Module) (section : CmajorSection) (cost steps frame : ℕ) (next : Config) (world : World) (instance : Instance) →
     (ends : BlockEnds Kept (funcs_of m) cost instance.current world next) → told world ≡ instance.trace → ends.count < steps →
     (after : Instance) × (block_end (machine_of m section steps) frame next instance ≡ Goes after) × (IsFree Kept told world after)
 unfolding heard
@@ -66,7 +66,7 @@ end_goes Kept told m section cost steps frame next world instance ends same enou
 )
 
 -- and with no more
-end_spent : {World : Type 0} (Kept : Keeping World) (m : Module) (section : Section) (cost steps frame : ℕ) (next : Config) (world : World) (instance : Instance) →
+end_spent : {World : Type 0} (Kept : Keeping World) (m : Module) (section : CmajorSection) (cost steps frame : ℕ) (next : Config) (world : World) (instance : Instance) →
     (ends : BlockEnds Kept (funcs_of m) cost instance.current world next) → steps ≤ ends.count →
     (so_far : List Item) × (block_end (machine_of m section steps) frame next instance ≡ Spent (record instance { trace = so_far })) × (IsFront so_far instance.trace)
 end_spent Kept m section cost steps frame next world instance ends few =
@@ -76,7 +76,7 @@ end_spent Kept m section cost steps frame next world instance ends few =
 -- ---- one stretch
 
 -- a stretch that comes to its mark
-stretch_marks : {World : Type 0} (Kept : Keeping World) (Waits : Waiting World) (told : World → List Item) (m : Module) (section : Section) (cost most frame steps : ℕ) (others : List Inputs) (block : Block) (world : World) (instance : Instance) →
+stretch_marks : {World : Type 0} (Kept : Keeping World) (Waits : Waiting World) (told : World → List Item) (m : Module) (section : CmajorSection) (cost most frame steps : ℕ) (others : List Inputs) (block : Block) (world : World) (instance : Instance) →
     (ends : CallEnds (funcs_of m) section.slots frame most block.next instance.trace (StretchMarks Kept Waits told (funcs_of m) section.slots cost frame instance.current others block.told world)) → ends.count < steps →
     stretch (machine_of m section steps) frame block instance (heard section.slots true frame (exec (funcs_of m) steps block.next) instance.trace)
     ≡ marked (machine_of m section steps) frame block instance ends.after.memory ends.after.next (instance.trace ++ ends.items)
@@ -91,11 +91,11 @@ abbrev Counts : Block → Inputs → List Inputs → Type 0
 Counts block inputs others = block.count ≡ block.told + length (inputs ∷ others)
 
 -- what a stretch leaves
-abbrev stretched : Module → Section → ℕ → ℕ → Block → Instance → Left Instance
+abbrev stretched : Module → CmajorSection → ℕ → ℕ → Block → Instance → Left Instance
 stretched m section steps frame block instance = stretch (machine_of m section steps) frame block instance (heard section.slots true frame (exec (funcs_of m) steps block.next) instance.trace)
 
 -- a mark with frames left
-goes_waiting : {World : Type 0} (Kept : Keeping World) (Waits : Waiting World) (told : World → List Item) (m : Module) (section : Section) (cost most frame steps : ℕ) (inputs next_inputs : Inputs) (others later : List Inputs) (block : Block) (world : World) (instance : Instance) →
+goes_waiting : {World : Type 0} (Kept : Keeping World) (Waits : Waiting World) (told : World → List Item) (m : Module) (section : CmajorSection) (cost most frame steps : ℕ) (inputs next_inputs : Inputs) (others later : List Inputs) (block : Block) (world : World) (instance : Instance) →
     Counts block inputs (next_inputs ∷ others) →
     (ends : CallEnds (funcs_of m) section.slots frame most block.next instance.trace (StretchMarks Kept Waits told (funcs_of m) section.slots cost frame instance.current (next_inputs ∷ others) block.told world)) → ends.count < steps →
     (after : Instance) × (stretched m section steps frame block instance ≡ Goes after) × (Related Kept Waits told (next_inputs ∷ (others ++ later)) world after)
@@ -121,7 +121,7 @@ goes_waiting Kept Waits told m section cost most frame steps inputs next_inputs 
     )
 
 -- the last mark
-ends_after_mark : {World : Type 0} (Kept : Keeping World) (Waits : Waiting World) (told : World → List Item) (m : Module) (section : Section) (cost most frame steps : ℕ) (inputs : Inputs) (block : Block) (world : World) (instance : Instance) →
+ends_after_mark : {World : Type 0} (Kept : Keeping World) (Waits : Waiting World) (told : World → List Item) (m : Module) (section : CmajorSection) (cost most frame steps : ℕ) (inputs : Inputs) (block : Block) (world : World) (instance : Instance) →
     Counts block inputs [] →
     (ends : CallEnds (funcs_of m) section.slots frame most block.next instance.trace (StretchMarks Kept Waits told (funcs_of m) section.slots cost frame instance.current [] block.told world)) → ends.count < steps →
     stretched m section steps frame block instance
@@ -131,7 +131,7 @@ ends_after_mark Kept Waits told m section cost most frame steps inputs block wor
     ∙ mark_ends m section steps frame block instance ends.after.memory ends.after.next (instance.trace ++ ends.items) (omega (arith, counts))
 
 -- forward, by what is left of the block
-goes_forth : {World : Type 0} (Kept : Keeping World) (Waits : Waiting World) (told : World → List Item) (m : Module) (section : Section) (cost frame n : ℕ) (inputs : Inputs) (others later : List Inputs) (block : Block) (world : World) (instance : Instance) →
+goes_forth : {World : Type 0} (Kept : Keeping World) (Waits : Waiting World) (told : World → List Item) (m : Module) (section : CmajorSection) (cost frame n : ℕ) (inputs : Inputs) (others later : List Inputs) (block : Block) (world : World) (instance : Instance) →
     Counts block inputs others →
     CallEnds (funcs_of m) section.slots frame (cost * (n + 1)) block.next instance.trace (StretchMarks Kept Waits told (funcs_of m) section.slots cost frame instance.current others block.told world) →
     Follows (Related Kept Waits told (others ++ later)) told trace_of (Goes world) (stretched m section (cost * (n + 1)) frame block instance)
@@ -145,7 +145,7 @@ goes_forth Kept Waits told m section cost frame n inputs (next_inputs ∷ others
     subst (λ other. Follows (Related Kept Waits told (next_inputs ∷ (others ++ later))) told trace_of (Goes world) other) (sym done.1) done.2
 
 -- backward
-goes_back : {World : Type 0} (Kept : Keeping World) (Waits : Waiting World) (told : World → List Item) (m : Module) (section : Section) (cost most frame steps : ℕ) (inputs : Inputs) (others later : List Inputs) (block : Block) (world : World) (instance : Instance) →
+goes_back : {World : Type 0} (Kept : Keeping World) (Waits : Waiting World) (told : World → List Item) (m : Module) (section : CmajorSection) (cost most frame steps : ℕ) (inputs : Inputs) (others later : List Inputs) (block : Block) (world : World) (instance : Instance) →
     Counts block inputs others →
     (ends : CallEnds (funcs_of m) section.slots frame most block.next instance.trace (StretchMarks Kept Waits told (funcs_of m) section.slots cost frame instance.current others block.told world)) → ends.count < steps →
     Follows (λ y x. Related Kept Waits told (others ++ later) x y) trace_of told (stretched m section steps frame block instance) (Goes world)
@@ -166,12 +166,12 @@ goes_back Kept Waits told m section cost most frame steps inputs (next_inputs �
     subst (λ other. Follows (λ y x. Related Kept Waits told (next_inputs ∷ (others ++ later)) x y) trace_of told other (Goes world)) (sym done.1) done.2
 
 -- what a stretch owes against what the frame of the source leaves
-abbrev Stretch : {World : Type 0} → Keeping World → Waiting World → (World → List Item) → Module → Section → ℕ → ℕ → ℕ → List Inputs → Block → Instance → Left World → Type 0
+abbrev Stretch : {World : Type 0} → Keeping World → Waiting World → (World → List Item) → Module → CmajorSection → ℕ → ℕ → ℕ → List Inputs → Block → Instance → Left World → Type 0
 Stretch Kept Waits told m section cost frame n others block instance left =
     CallKeeps (funcs_of m) section.slots frame cost n block.next instance.trace told (StretchMarks Kept Waits told (funcs_of m) section.slots cost frame instance.current others block.told) left
 
 -- with the reductions that the turns are worth, it follows the source
-stretch_forth : {World : Type 0} (Kept : Keeping World) (Waits : Waiting World) (told : World → List Item) (m : Module) (section : Section) (cost frame n : ℕ) (inputs : Inputs) (others later : List Inputs) (block : Block) (instance : Instance) →
+stretch_forth : {World : Type 0} (Kept : Keeping World) (Waits : Waiting World) (told : World → List Item) (m : Module) (section : CmajorSection) (cost frame n : ℕ) (inputs : Inputs) (others later : List Inputs) (block : Block) (instance : Instance) →
     Counts block inputs others → (left : Left World) → Stretch Kept Waits told m section cost frame n others block instance left →
     Follows (Related Kept Waits told (others ++ later)) told trace_of left (stretched m section (cost * (n + 1)) frame block instance)
 stretch_forth Kept Waits told m section cost frame n inputs others later block instance counts (Goes world) keeps =
@@ -183,7 +183,7 @@ stretch_forth Kept Waits told m section cost frame n inputs others later block i
 stretch_forth Kept Waits told m section cost frame n inputs others later block instance counts (Traps world) keeps = absurd keeps
 
 -- with as many turns as reductions, the source follows it
-stretch_back : {World : Type 0} (Kept : Keeping World) (Waits : Waiting World) (told : World → List Item) (m : Module) (section : Section) (cost frame steps : ℕ) (inputs : Inputs) (others later : List Inputs) (block : Block) (instance : Instance) →
+stretch_back : {World : Type 0} (Kept : Keeping World) (Waits : Waiting World) (told : World → List Item) (m : Module) (section : CmajorSection) (cost frame steps : ℕ) (inputs : Inputs) (others later : List Inputs) (block : Block) (instance : Instance) →
     Counts block inputs others → (left : Left World) → Stretch Kept Waits told m section cost frame steps others block instance left →
     Follows (λ y x. Related Kept Waits told (others ++ later) x y) trace_of told (stretched m section steps frame block instance) left
 stretch_back Kept Waits told m section cost frame steps inputs others later block instance counts (Goes world) keeps =
@@ -204,7 +204,7 @@ stretch_back Kept Waits told m section cost frame steps inputs others later bloc
 -- ---- parts of a run in blocks
 
 -- a frame whose part is this stretch
-stretch_keeps : {World : Type 0} (Kept : Keeping World) (Waits : Waiting World) (m : Module) (section : Section) (source : Source World) (size frame : ℕ) (inputs : Inputs) (others later coming : List Inputs) (block : Block) (world : World) (instance : Instance) →
+stretch_keeps : {World : Type 0} (Kept : Keeping World) (Waits : Waiting World) (m : Module) (section : CmajorSection) (source : Source World) (size frame : ℕ) (inputs : Inputs) (others later coming : List Inputs) (block : Block) (world : World) (instance : Instance) →
     BlocksKeep Kept Waits m section size source → AreInputs source.ends inputs → source.player.told world ≡ instance.trace → Counts block inputs others → Waits world instance.current (inputs ∷ others) block.next block.told →
     coming ≡ others ++ later → ((steps : ℕ) → (module_player m section).perform steps (Frame frame inputs) coming instance ≡ stretched m section steps frame block instance) →
     KeepsPart source.cost (Related Kept Waits source.player.told coming) source.player (module_player m section) (Frame frame inputs) coming world instance
@@ -234,7 +234,7 @@ few_first (suc count) [] = omega arith
 few_first (suc count) (x ∷ all) = omega (arith, few_first count all)
 
 -- a frame where no call waits, and where one does
-pub frame_keeps : {World : Type 0} (Kept : Keeping World) (Waits : Waiting World) (m : Module) (section : Section) (source : Source World) (size : ℕ) → section.interface ≡ Blocks (suc size) →
+pub frame_keeps : {World : Type 0} (Kept : Keeping World) (Waits : Waiting World) (m : Module) (section : CmajorSection) (source : Source World) (size : ℕ) → section.interface ≡ Blocks (suc size) →
     BlocksKeep Kept Waits m section (suc size) source → (frame : ℕ) (inputs : Inputs) (coming : List Inputs) (world : World) (instance : Instance) →
     AreInputs source.ends inputs → AllByRecursion (AreInputs source.ends) coming → Related Kept Waits source.player.told (inputs ∷ coming) world instance →
     KeepsPart source.cost (Related Kept Waits source.player.told coming) source.player (module_player m section) (Frame frame inputs) coming world instance

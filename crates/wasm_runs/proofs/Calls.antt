@@ -9,7 +9,7 @@ use Rattle.cm_base.specs.Tasks.{AreInputs, IsTaken}
 use Rattle.wasm_tree.specs.declared.module.Module.{Module}
 use Rattle.wasm_tree.specs.declared.interface.Interface.{Interface}
 use Rattle.wasm_tree.specs.declared.interface.Interface.TheVariants.{Single}
-use Rattle.wasm_tree.specs.Section.{Section, Slot}
+use Rattle.wasm_tree.specs.Section.{CmajorSection, Slot}
 use Rattle.wasm_tree.specs.Reduce.{Func, Config, Step, exec, follow}
 use Rattle.wasm_tree.specs.Calls.{Heard, Returned, Marked, Exhausted, Failed, heard}
 use Rattle.wasm_tree.specs.HostRun.{Instance, call_left, no_more, frame_told, frame_part, module_player}
@@ -106,7 +106,7 @@ pub from_trace : {World : Type 0} (funcs : List Func) (slots : List Slot) (frame
 from_trace funcs slots frame cost n c told After left e keeps = subst (λ trace. CallKeeps funcs slots frame cost n c trace told After left) e keeps
 
 -- a part of the module that is one call of it
-pub call_keeps : {World : Type 0} (Kept : Keeping World) (m : Module) (section : Section) (source : Source World) (R : World → Instance → Type 0) (part : Part) (coming : List Inputs) (frame : ℕ)
+pub call_keeps : {World : Type 0} (Kept : Keeping World) (m : Module) (section : CmajorSection) (source : Source World) (R : World → Instance → Type 0) (part : Part) (coming : List Inputs) (frame : ℕ)
     (c : Config) (finish : List ℕ → List Item → List Item) (world : World) (instance : Instance) → Adds finish → ((x : World) (y : Instance) → IsFree Kept source.player.told x y → R x y) →
     source.player.told world ≡ instance.trace →
     ((steps : ℕ) → (module_player m section).perform steps part coming instance ≡ call_left instance finish (heard section.slots false frame (exec (funcs_of m) steps c) instance.trace)) →
@@ -127,7 +127,7 @@ call_keeps Kept m section source R part coming frame c finish world instance add
     }
 
 -- the inits
-pub init_keeps : {World : Type 0} (Kept : Keeping World) (m : Module) (section : Section) (source : Source World) (R : World → Instance → Type 0) →
+pub init_keeps : {World : Type 0} (Kept : Keeping World) (m : Module) (section : CmajorSection) (source : Source World) (R : World → Instance → Type 0) →
     (coming : List Inputs) (instance : Instance) → ((x : World) (y : Instance) → IsFree Kept source.player.told x y → R x y) → source.player.told source.first ≡ instance.trace →
     InitKeeps Kept m section source instance.current instance.globals instance.memory →
     KeepsPart source.cost R source.player (module_player m section) Init coming source.first instance
@@ -135,7 +135,7 @@ init_keeps Kept m section source R coming instance weaker same keeps =
     call_keeps Kept m section source R Init coming 0 _ no_more source.first instance adds_none weaker same (λ steps. refl) (λ n. keeps n coming)
 
 -- an event that is sent
-pub send_keeps : {World : Type 0} (Kept : Keeping World) (m : Module) (section : Section) (source : Source World) (R : World → Instance → Type 0) → CallsKeep Kept m section source →
+pub send_keeps : {World : Type 0} (Kept : Keeping World) (m : Module) (section : CmajorSection) (source : Source World) (R : World → Instance → Type 0) → CallsKeep Kept m section source →
     (frame endpoint : ℕ) (value : List ℤ) (inputs : Inputs) (coming : List Inputs) (world : World) (instance : Instance) → ((x : World) (y : Instance) → IsFree Kept source.player.told x y → R x y) →
     IsTaken kinds.Event source.ends endpoint value → AreInputs source.ends inputs → IsFree Kept source.player.told world instance →
     KeepsPart source.cost R source.player (module_player m section) (Send frame endpoint value inputs) coming world instance
@@ -144,7 +144,7 @@ send_keeps Kept m section source R calls frame endpoint value inputs coming worl
     (λ n. calls.sends n frame endpoint value inputs coming world instance.current instance.globals instance.memory taken fit free.kept)
 
 -- a frame of interface 1
-pub single_keeps : {World : Type 0} (Kept : Keeping World) (m : Module) (section : Section) (source : Source World) → section.interface ≡ Single → SinglesKeep Kept m section source →
+pub single_keeps : {World : Type 0} (Kept : Keeping World) (m : Module) (section : CmajorSection) (source : Source World) → section.interface ≡ Single → SinglesKeep Kept m section source →
     (frame : ℕ) (inputs : Inputs) (coming : List Inputs) (world : World) (instance : Instance) → AreInputs source.ends inputs → IsFree Kept source.player.told world instance →
     KeepsPart source.cost (IsFree Kept source.player.told) source.player (module_player m section) (Frame frame inputs) coming world instance
 single_keeps Kept m section source single keeps frame inputs coming world instance fit free =

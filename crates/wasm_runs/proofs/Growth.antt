@@ -7,7 +7,7 @@ use Rattle.cm_base.specs.Players.{Left, Goes}
 use Rattle.wasm_tree.specs.declared.module.Module.{Module}
 use Rattle.wasm_tree.specs.declared.interface.Interface.{Interface}
 use Rattle.wasm_tree.specs.declared.interface.Interface.TheVariants.{Single, Blocks}
-use Rattle.wasm_tree.specs.Section.{Section}
+use Rattle.wasm_tree.specs.Section.{CmajorSection}
 use Rattle.wasm_tree.specs.Reduce.{Config, exec}
 use Rattle.wasm_tree.specs.Calls.{Heard, Returned, Marked, Exhausted, Failed}
 use Rattle.wasm_tree.specs.HostRun.{Machine, Block, Instance, hears, call_left, no_more, frame_told, stretch, block_end, new_block, frame_part, module_part, module_player}
@@ -71,7 +71,7 @@ part_grows machine (Send frame endpoint value inputs) coming instance =
     instance no_more adds_none
 part_grows machine (Frame frame inputs) coming instance = frame_grows machine.section.interface machine frame inputs coming instance
 
-pub module_grows : (m : Module) (section : Section) → Grows (module_player m section)
+pub module_grows : (m : Module) (section : CmajorSection) → Grows (module_player m section)
 module_grows m section = record {
   sets = λ endpoint value instance. refl;
   parts = λ steps. part_grows (record { «module» = m; section = section; steps = steps });

@@ -16,7 +16,7 @@ use Rattle.wasm_tree.specs.Calls.{Heard, Returned, Marked, Exhausted, Failed, if
 use Rattle.wasm_tree.specs.HostRun.{Machine, Block, Instance, hears, call_left, no_more, frame_told, block_end, marked, stretch, new_block, frame_part, module_part, module_player}
 use Rattle.wasm_tree.specs.Instance.{funcs_of, call_of}
 use Rattle.wasm_tree.specs.Reduce.{Config, Run, Done, Trapped as RunTrapped, Out as RunOut, Stuck, Emits, exec}
-use Rattle.wasm_tree.specs.Section.{Section, Slot}
+use Rattle.wasm_tree.specs.Section.{CmajorSection, Slot}
 use Rattle.wasm_tree.specs.Slots.{event_slot, read_slot, outputs_at, event_name, write_event, write_inputs}
 use Rattle.wasm_tree.specs.Stopped.{later_item, joined_traces}
 use Rattle.wasm_runs.proofs.Joined.{later_part, later_task}
@@ -197,7 +197,7 @@ after_moves frames before part (Spent instance) go on same = refl
 after_moves frames before part (Traps instance) go on same = refl
 
 -- a run of tasks that come so many frames later stops so much later
-pub stops_move : (m : Module) (section : Section) (ends : List HostEnd) (steps frames : ℕ) (before : List Item) (tasks : List Task) (instance : Instance) → AllByRecursion (IsTask ends) tasks →
+pub stops_move : (m : Module) (section : CmajorSection) (ends : List HostEnd) (steps frames : ℕ) (before : List Item) (tasks : List Task) (instance : Instance) → AllByRecursion (IsTask ends) tasks →
     stops (module_player m section) steps (map (later_task frames) tasks) (moved frames before instance) ≡ moved_stop frames before (stops (module_player m section) steps tasks instance)
 unfolding stops
 stops_move m section ends steps frames before [] instance all = refl

@@ -8,7 +8,7 @@ use Rattle.wasm_tree.specs.declared.interface.Interface.TheVariants.{Single}
 use Rattle.wasm_tree.specs.declared.module.Module.{Module}
 use Rattle.wasm_tree.specs.HostRun.{Instance, first_instance, module_player}
 use Rattle.wasm_tree.specs.Keeps.{KeepsRuns}
-use Rattle.wasm_tree.specs.Section.{Section}
+use Rattle.wasm_tree.specs.Section.{CmajorSection}
 use Rattle.wasm_tree.specs.Stopped.{KeepsStopped}
 use Rattle.wasm_runs.specs.Calling.{Keeping, CallsKeep, SinglesKeep, IsFree, OwesSingles, CanResume}
 use Rattle.wasm_runs.specs.Follows.{KeepsPart, KeepsParts}
@@ -18,7 +18,7 @@ use Rattle.wasm_runs.proofs.Relations.{Relation, relation_keeps}
 use Rattle.wasm_runs.proofs.Stopped.{stopped_keep}
 
 -- each part after the inits
-part_keeps : {World : Type 0} (Kept : Keeping World) (m : Module) (section : Section) (source : Source World) → section.interface ≡ Single → CallsKeep Kept m section source → SinglesKeep Kept m section source →
+part_keeps : {World : Type 0} (Kept : Keeping World) (m : Module) (section : CmajorSection) (source : Source World) → section.interface ≡ Single → CallsKeep Kept m section source → SinglesKeep Kept m section source →
     (part : Part) (coming : List Inputs) (world : World) (instance : Instance) → IsPart source.ends part → AllByRecursion (AreInputs source.ends) coming → IsFree Kept source.player.told world instance →
     KeepsPart source.cost (IsFree Kept source.player.told) source.player (module_player m section) part coming world instance
 part_keeps Kept m section source interface calls frames Init coming world instance is fit free = absurd is
@@ -28,7 +28,7 @@ part_keeps Kept m section source interface calls frames (Frame frame inputs) com
     single_keeps Kept m section source interface frames frame inputs coming world instance is free
 
 -- the relation of worlds and instances, whatever comes next
-parts_keep : {World : Type 0} (Kept : Keeping World) (m : Module) (section : Section) (source : Source World) → section.interface ≡ Single → CallsKeep Kept m section source → SinglesKeep Kept m section source →
+parts_keep : {World : Type 0} (Kept : Keeping World) (m : Module) (section : CmajorSection) (source : Source World) → section.interface ≡ Single → CallsKeep Kept m section source → SinglesKeep Kept m section source →
     KeepsParts source.ends source.cost (λ coming. IsFree Kept source.player.told) source.player (module_player m section)
 parts_keep Kept m section source interface calls frames = record {
   source_grows = calls.grows;
@@ -45,7 +45,7 @@ parts_keep Kept m section source interface calls frames = record {
 }
 
 -- what a module of interface 1 owes gives the relation
-singles_relation : {World : Type 0} (Kept : Keeping World) (m : Module) (section : Section) (source : Source World) → OwesSingles Kept m section source → Relation Kept m section source
+singles_relation : {World : Type 0} (Kept : Keeping World) (m : Module) (section : CmajorSection) (source : Source World) → OwesSingles Kept m section source → Relation Kept m section source
 singles_relation Kept m section source owes = record {
   R = λ coming. IsFree Kept source.player.told;
   parts = parts_keep Kept m section source owes.interface owes.calls owes.frames;
@@ -57,9 +57,9 @@ singles_relation Kept m section source owes = record {
 }
 
 -- the runs of a module of interface 1
-pub singles_keep : {World : Type 0} (Kept : Keeping World) (m : Module) (section : Section) (source : Source World) → OwesSingles Kept m section source → KeepsRuns source m section
+pub singles_keep : {World : Type 0} (Kept : Keeping World) (m : Module) (section : CmajorSection) (source : Source World) → OwesSingles Kept m section source → KeepsRuns source m section
 singles_keep Kept m section source owes = relation_keeps Kept m section source (singles_relation Kept m section source owes)
 
 -- and those that are stopped and resumed
-pub singles_stopped : {World : Type 0} (Kept : Keeping World) (m : Module) (section : Section) (source : Source World) → OwesSingles Kept m section source → CanResume Kept m section source → KeepsStopped source m section
+pub singles_stopped : {World : Type 0} (Kept : Keeping World) (m : Module) (section : CmajorSection) (source : Source World) → OwesSingles Kept m section source → CanResume Kept m section source → KeepsStopped source m section
 singles_stopped Kept m section source owes can = stopped_keep Kept m section source (singles_relation Kept m section source owes) can

@@ -12,7 +12,7 @@ use Rattle.cm_base.specs.Tasks.{IsTask}
 use Rattle.cm_base.proofs.TaskLemmas.{tasks_fit, frames_fit}
 use Rattle.wasm_tree.specs.declared.module.Module.{Module}
 use Rattle.wasm_tree.specs.HostRun.{Block, Instance, first_instance, host_stops, module_player}
-use Rattle.wasm_tree.specs.Section.{Section, ends_of}
+use Rattle.wasm_tree.specs.Section.{CmajorSection, ends_of}
 use Rattle.wasm_tree.specs.Stopped.{joined_traces, snapshot_of, restored_instance, resumed_run, Resumes, KeepsStopped}
 use Rattle.wasm_runs.specs.Calling.{Keeping, IsFree, CanResume}
 use Rattle.wasm_runs.specs.Follows.{StopFollows, flipped}
@@ -83,7 +83,7 @@ instance_is i globals current block trace first second third fourth =
     ∙ ap (λ t. record { globals = i.globals; memory = i.memory; current = i.current; block = i.block; trace = t }) fourth))
 
 -- the instance restored from its snapshot, with its trace before it
-restores_same : {World : Type 0} (Kept : Keeping World) (m : Module) (section : Section) (source : Source World) → CanResume Kept m section source → (frames : ℕ) (world : World) (instance : Instance) → IsFree Kept source.player.told world instance →
+restores_same : {World : Type 0} (Kept : Keeping World) (m : Module) (section : CmajorSection) (source : Source World) → CanResume Kept m section source → (frames : ℕ) (world : World) (instance : Instance) → IsFree Kept source.player.told world instance →
     moved frames instance.trace (restored_instance m section (snapshot_of m section instance)) ≡ instance
 restores_same Kept m section source can frames world instance free =
     instance_is instance _ _ _ _ (can.globals world instance.current instance.globals instance.memory free.kept) (can.current world instance.current instance.globals instance.memory free.kept)
@@ -107,11 +107,11 @@ ended_before frames (Trapped part) e = cc (e)
 -- ---- both scripts
 
 -- the tasks of the second script where the first one ends
-abbrev late_tasks : Section → Script → Script → List Task
+abbrev late_tasks : CmajorSection → Script → Script → List Task
 late_tasks section first second = map (later_task first.frames) (frames_from (ends_of section) second 0 second.frames)
 
 -- the run of the module that goes on is the resumed one, so many frames later
-goes_on_resumed : {World : Type 0} (Kept : Keeping World) (m : Module) (section : Section) (source : Source World) → CanResume Kept m section source → (first second : Script) (steps : ℕ) (world : World) (instance : Instance) →
+goes_on_resumed : {World : Type 0} (Kept : Keeping World) (m : Module) (section : CmajorSection) (source : Source World) → CanResume Kept m section source → (first second : Script) (steps : ℕ) (world : World) (instance : Instance) →
     IsFree Kept source.player.told world instance → AllByRecursion (IsTask (ends_of section)) (frames_from (ends_of section) second 0 second.frames) →
     play (module_player m section) steps (late_tasks section first second) instance
     ≡ moved_outcome first.frames instance.trace (resumed_run m section (snapshot_of m section instance) second second.frames steps)
@@ -123,7 +123,7 @@ goes_on_resumed Kept m section source can first second steps world instance free
     ∙ outcome_moves first.frames instance.trace (stops (module_player m section) steps tasks again))
 
 -- from where both stopped
-resumes_from : {World : Type 0} (Kept : Keeping World) (m : Module) (section : Section) (source : Source World) → CanResume Kept m section source → (saved : List Saved) (first second : Script) (steps : ℕ) (outcome : Outcome) (world : World) (instance : Instance) →
+resumes_from : {World : Type 0} (Kept : Keeping World) (m : Module) (section : CmajorSection) (source : Source World) → CanResume Kept m section source → (saved : List Saved) (first second : Script) (steps : ℕ) (outcome : Outcome) (world : World) (instance : Instance) →
     IsFree Kept source.player.told world instance → host_stops m section saved first first.frames steps ≡ AtEnd instance → AllByRecursion (IsTask (ends_of section)) (frames_from (ends_of section) second 0 second.frames) →
     outcome ≡ play (module_player m section) steps (late_tasks section first second) instance → outcome.ending ≡ Ended → Resumes m section saved first second steps outcome
 resumes_from Kept m section source can saved first second steps outcome world instance free stopped all same e =
@@ -138,11 +138,11 @@ resumes_from Kept m section source can saved first second steps outcome world in
     }
 
 -- the run of the source over the tasks of both scripts
-abbrev whole_run : {World : Type 0} → Source World → Section → List Saved → Script → Script → ℕ → Outcome
+abbrev whole_run : {World : Type 0} → Source World → CmajorSection → List Saved → Script → Script → ℕ → Outcome
 whole_run source section saved first second n = play source.player n (tasks_of (ends_of section) saved first first.frames ++ late_tasks section first second) source.first
 
 -- a run of the source that ends
-stopped_forth : {World : Type 0} (Kept : Keeping World) (m : Module) (section : Section) (source : Source World) → Relation Kept m section source → CanResume Kept m section source →
+stopped_forth : {World : Type 0} (Kept : Keeping World) (m : Module) (section : CmajorSection) (source : Source World) → Relation Kept m section source → CanResume Kept m section source →
     (saved : List Saved) (first second : Script) → AreSaved (ends_of section) saved → IsScriptFor (ends_of section) first → IsScriptFor (ends_of section) second →
     (n : ℕ) → (whole_run source section saved first second n).ending ≡ Ended → Resumes m section saved first second (source.cost * (n + 1)) (whole_run source section saved first second n)
 stopped_forth Kept m section source relation can saved first second are is_first is_second n e =
@@ -165,7 +165,7 @@ stopped_forth Kept m section source relation can saved first second are is_first
     resumes_from Kept m section source can saved first second bound _ stop.0 met.0 free met.1 all_second (on ∙ sym (later.forward n ended)) e
 
 -- runs of the module that end
-stopped_back : {World : Type 0} (Kept : Keeping World) (m : Module) (section : Section) (source : Source World) → Relation Kept m section source → CanResume Kept m section source →
+stopped_back : {World : Type 0} (Kept : Keeping World) (m : Module) (section : CmajorSection) (source : Source World) → Relation Kept m section source → CanResume Kept m section source →
     (saved : List Saved) (first second : Script) → AreSaved (ends_of section) saved → IsScriptFor (ends_of section) first → IsScriptFor (ends_of section) second →
     (steps : ℕ) (instance : Instance) → host_stops m section saved first first.frames steps ≡ AtEnd instance → (resumed_run m section (snapshot_of m section instance) second second.frames steps).ending ≡ Ended →
     Resumes m section saved first second steps (whole_run source section saved first second steps)
@@ -189,7 +189,7 @@ stopped_back Kept m section source relation can saved first second are is_first 
     resumes_from Kept m section source can saved first second steps _ met.0 instance free stopped all_second same (ap (λ (o : Outcome). o.ending) same ∙ ended)
 
 -- over the endpoints of the section
-section_stopped : {World : Type 0} (Kept : Keeping World) (m : Module) (section : Section) (source : Source World) → Relation Kept m section source → CanResume Kept m section source → KeepsStopped (record source { ends = ends_of section }) m section
+section_stopped : {World : Type 0} (Kept : Keeping World) (m : Module) (section : CmajorSection) (source : Source World) → Relation Kept m section source → CanResume Kept m section source → KeepsStopped (record source { ends = ends_of section }) m section
 section_stopped Kept m section source relation can saved first second are is_first is_second =
     let ends = ends_of section in
     let same = λ (n : ℕ). ap (λ tasks. play source.player n tasks source.first) (tasks_joined ends saved first second is_first) in
@@ -201,6 +201,6 @@ section_stopped Kept m section source relation can saved first second are is_fir
     }
 
 -- the runs that are stopped and resumed, which come of a relation
-pub stopped_keep : {World : Type 0} (Kept : Keeping World) (m : Module) (section : Section) (source : Source World) → Relation Kept m section source → CanResume Kept m section source → KeepsStopped source m section
+pub stopped_keep : {World : Type 0} (Kept : Keeping World) (m : Module) (section : CmajorSection) (source : Source World) → Relation Kept m section source → CanResume Kept m section source → KeepsStopped source m section
 stopped_keep Kept m section source relation can =
     subst (λ (ends : List HostEnd). KeepsStopped (record source { ends = ends }) m section) relation.endpoints (section_stopped Kept m section source relation can)

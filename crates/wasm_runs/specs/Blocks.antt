@@ -12,7 +12,7 @@ use Rattle.wasm_tree.specs.declared.module.Module.{Module}
 use Rattle.wasm_tree.specs.HostRun.{Block, Instance, frame_told, zeros_of}
 use Rattle.wasm_tree.specs.Instance.{funcs_of, call_of, first_globals, first_memory}
 use Rattle.wasm_tree.specs.Reduce.{Func, Config, Step, Asks, Ends}
-use Rattle.wasm_tree.specs.Section.{Section, Slot, ends_of}
+use Rattle.wasm_tree.specs.Section.{CmajorSection, Slot, ends_of}
 use Rattle.wasm_tree.specs.Slots.{write_values, write_block}
 use Rattle.wasm_steps.specs.Steps.{Leads, reduce}
 use Rattle.wasm_runs.specs.Calling.{Keeping, CallKeeps, CallsKeep, InitKeeps, IsFree}
@@ -50,7 +50,7 @@ pub record StretchMarks {World : Type 0} (Kept : Keeping World) (Waits : Waiting
 -- ---- what a module owes
 
 -- the frames of interface 2: a call begins, and a stretch goes to its mark
-pub record BlocksKeep {World : Type 0} (Kept : Keeping World) (Waits : Waiting World) (m : Module) (section : Section) (length_of_block : ℕ) (source : Source World) : Type 0 where
+pub record BlocksKeep {World : Type 0} (Kept : Keeping World) (Waits : Waiting World) (m : Module) (section : CmajorSection) (length_of_block : ℕ) (source : Source World) : Type 0 where
   pub begins : (inputs : Inputs) (others : List Inputs) (world : World) (current : List (List ℤ)) (globals memory : List ℕ) →
       AllByRecursion (AreInputs source.ends) (inputs ∷ others) → length (inputs ∷ others) ≤ length_of_block → Kept world current globals memory →
       Waits world current (inputs ∷ others)
@@ -61,7 +61,7 @@ pub record BlocksKeep {World : Type 0} (Kept : Keeping World) (Waits : Waiting W
       (StretchMarks Kept Waits source.player.told (funcs_of m) section.slots source.cost frame current others entry) (source.player.perform n (Frame frame inputs) coming world)
 
 -- what a module of interface 2 owes in all
-pub record OwesBlocks {World : Type 0} (Kept : Keeping World) (Waits : Waiting World) (m : Module) (section : Section) (size : ℕ) (source : Source World) : Type 0 where
+pub record OwesBlocks {World : Type 0} (Kept : Keeping World) (Waits : Waiting World) (m : Module) (section : CmajorSection) (size : ℕ) (source : Source World) : Type 0 where
   pub interface : section.interface ≡ Blocks (suc size)
   pub lawful : IsLawful source.ends
   pub endpoints : ends_of section ≡ source.ends

@@ -13,7 +13,7 @@ use Rattle.wasm_tree.specs.declared.module.Module.{Module}
 use Rattle.wasm_tree.specs.HostRun.{Instance, no_more, frame_told, zeros_of}
 use Rattle.wasm_tree.specs.Instance.{funcs_of, call_of, first_globals, first_memory}
 use Rattle.wasm_tree.specs.Reduce.{Func, Config, Step, Ends}
-use Rattle.wasm_tree.specs.Section.{Section, Slot, ends_of}
+use Rattle.wasm_tree.specs.Section.{CmajorSection, Slot, ends_of}
 use Rattle.wasm_tree.specs.Slots.{event_name, event_slot, write_event, write_inputs, read_slot}
 use Rattle.wasm_tree.specs.Stopped.{kept_globals, restored_globals, kept_current, restored_current}
 use Rattle.wasm_steps.specs.Steps.{Emission, HostCall, host_calls, Leads, reduce}
@@ -81,13 +81,13 @@ pub record CallReturns {World : Type 0} (Kept : Keeping World) (told : World →
 -- ---- what a module owes
 
 -- `init` from the first instance
-abbrev pub InitKeeps : {World : Type 0} → Keeping World → Module → Section → Source World → (current : List (List ℤ)) → (globals memory : List ℕ) → Type 0
+abbrev pub InitKeeps : {World : Type 0} → Keeping World → Module → CmajorSection → Source World → (current : List (List ℤ)) → (globals memory : List ℕ) → Type 0
 InitKeeps Kept m section source current globals memory = (n : ℕ) (coming : List Inputs) →
     CallKeeps (funcs_of m) section.slots 0 source.cost n (call_of m (codes "init") [] globals memory)
     (source.player.told source.first) source.player.told (CallReturns Kept source.player.told current no_more) (source.player.perform n Init coming source.first)
 
 -- setting values, and calls for events
-pub record CallsKeep {World : Type 0} (Kept : Keeping World) (m : Module) (section : Section) (source : Source World) : Type 0 where
+pub record CallsKeep {World : Type 0} (Kept : Keeping World) (m : Module) (section : CmajorSection) (source : Source World) : Type 0 where
   pub grows : Grows source.player
   pub sets : (endpoint : ℕ) (value : List ℤ) (world : World) (current : List (List ℤ)) (globals memory : List ℕ) → IsTaken kinds.Value source.ends endpoint value →
       Kept world current globals memory → Kept (source.player.set endpoint value world) (slice_set current endpoint value) globals memory
@@ -98,14 +98,14 @@ pub record CallsKeep {World : Type 0} (Kept : Keeping World) (m : Module) (secti
       (source.player.told world) source.player.told (CallReturns Kept source.player.told current no_more) (source.player.perform n (Send frame endpoint value inputs) coming world)
 
 -- a frame of interface 1
-abbrev pub SinglesKeep : {World : Type 0} → Keeping World → Module → Section → Source World → Type 0
+abbrev pub SinglesKeep : {World : Type 0} → Keeping World → Module → CmajorSection → Source World → Type 0
 SinglesKeep {World} Kept m section source =
     (n frame : ℕ) (inputs : Inputs) (coming : List Inputs) (world : World) (current : List (List ℤ)) (globals memory : List ℕ) → AreInputs source.ends inputs → Kept world current globals memory →
     CallKeeps (funcs_of m) section.slots frame source.cost n (call_of m (codes "frame") [] globals (write_inputs section.slots inputs current memory))
     (source.player.told world) source.player.told (CallReturns Kept source.player.told current (frame_told section.slots 0 frame)) (source.player.perform n (Frame frame inputs) coming world)
 
 -- what a module of interface 1 owes in all
-pub record OwesSingles {World : Type 0} (Kept : Keeping World) (m : Module) (section : Section) (source : Source World) : Type 0 where
+pub record OwesSingles {World : Type 0} (Kept : Keeping World) (m : Module) (section : CmajorSection) (source : Source World) : Type 0 where
   pub interface : section.interface ≡ Single
   pub lawful : IsLawful source.ends
   pub endpoints : ends_of section ≡ source.ends
@@ -124,7 +124,7 @@ pub record IsFree {World : Type 0} (Kept : Keeping World) (told : World → List
 
 -- what the relation between two calls says besides, where runs are stopped and resumed: a part doesn't depend on
 -- the frames that come, and the globals and current values come back from a snapshot
-pub record CanResume {World : Type 0} (Kept : Keeping World) (m : Module) (section : Section) (source : Source World) : Type 0 where
+pub record CanResume {World : Type 0} (Kept : Keeping World) (m : Module) (section : CmajorSection) (source : Source World) : Type 0 where
   pub ignores : (n : ℕ) (part : Part) (coming : List Inputs) (world : World) → source.player.perform n part coming world ≡ source.player.perform n part [] world
   pub globals : (world : World) (current : List (List ℤ)) (globals memory : List ℕ) → Kept world current globals memory → restored_globals m.globals (kept_globals m.globals globals) ≡ globals
   pub current : (world : World) (current : List (List ℤ)) (globals memory : List ℕ) → Kept world current globals memory → restored_current (ends_of section) (kept_current (ends_of section) current) ≡ current

@@ -5,7 +5,7 @@ use Rattle.std.specs.Int.{w32, cast_signed}
 use Rattle.std.proofs.lemmas.Bool.{le-ltb}
 use Rattle.std.proofs.lemmas.List.{take_at, drop_at, length-append}
 use Rattle.wasm_tree.specs.declared.instr.Instr.TheVariants as instr
-use Rattle.wasm_tree.specs.Reduce.{Seq, Nil, Plain, Func, State, Frame, Config, Step, To, Sticks, Done, Trapped, Out, Emits, at, with_values, push, if_there, enter_function, plain, act, exec, follow}
+use Rattle.wasm_tree.specs.Reduce.{Seq, Nil, Plain, Func, State, CallFrame, Config, Step, To, Sticks, Done, Trapped, Out, Emits, at, with_values, push, if_there, enter_function, plain, act, exec, follow}
 use Rattle.wasm_steps.specs.Steps.{Emission, emitting, reduce, Leads, is_over, Place, start, finish, quiet, branching, returning, trapping, asking, Does, Meets, bottom, Finishes, entry, given_back, waiting, emission_of}
 use Rattle.wasm_steps.proofs.Compose.{one, stay, asks, exec-suc, andthen, take_step, recount, does_last, meets_last}
 use Rattle.wasm_steps.proofs.Budgets.{backward, spent}
@@ -51,17 +51,17 @@ finishes_branch {st' = st'} depth meets = record {
 }
 
 -- a call from outside ends with every greater number of reductions
-pub finishes_done : {funcs : List Func} {body : Seq} {n : ℕ} {es : List Frame → List Emission} {st st' : State} (m : ℕ) → Finishes funcs body n es st st' → n < m →
+pub finishes_done : {funcs : List Func} {body : Seq} {n : ℕ} {es : List CallFrame → List Emission} {st st' : State} (m : ℕ) → Finishes funcs body n es st st' → n < m →
     exec funcs m (at body st [] []) ≡ emitting (es []) (Done st'.globals st'.memory)
 finishes_done m finishes h = runs_to m (finishes.leads []) (finishes.reduces []) h
 
 -- and is out with every other, after a first part of the calls of the host
-pub finishes_spent : {funcs : List Func} {body : Seq} {n : ℕ} {es : List Frame → List Emission} {st st' : State} (m : ℕ) → Finishes funcs body n es st st' → m ≤ n →
+pub finishes_spent : {funcs : List Func} {body : Seq} {n : ℕ} {es : List CallFrame → List Emission} {st st' : State} (m : ℕ) → Finishes funcs body n es st st' → m ≤ n →
     (j : ℕ) × (j ≤ length (es [])) × (exec funcs m (at body st [] []) ≡ emitting (take j (es [])) Out)
 finishes_spent m finishes h = spent m (finishes.leads []) h
 
 -- a call from outside that is over had more reductions than lead to its last one
-pub finishes_over : {funcs : List Func} {body : Seq} {n : ℕ} {es : List Frame → List Emission} {st st' : State} (m : ℕ) → Finishes funcs body n es st st' →
+pub finishes_over : {funcs : List Func} {body : Seq} {n : ℕ} {es : List CallFrame → List Emission} {st st' : State} (m : ℕ) → Finishes funcs body n es st st' →
     is_over (exec funcs m (at body st [] [])) ≡ true → (n < m) × (exec funcs m (at body st [] []) ≡ emitting (es []) (Done st'.globals st'.memory))
 finishes_over {n = n} m finishes over =
     let found : (j : ℕ) × (m ≡ n + suc j) × _ = backward m (finishes.leads []) over in
@@ -85,7 +85,7 @@ enters_function f arguments st p e =
 
 -- A call of a function of the module: the body's reductions, the call and the end. Number 0 is the host's
 -- function, and the module's own are counted from 1.
-pub call_function : {funcs : List Func} {f : Func} {n : ℕ} {es : List Frame → List Emission} {st' : State} (st : State) (index : ℕ) (arguments : List ℕ) →
+pub call_function : {funcs : List Func} {f : Func} {n : ℕ} {es : List CallFrame → List Emission} {st' : State} (st : State) (index : ℕ) (arguments : List ℕ) →
     slice_get funcs index ≡ Some f → length arguments ≡ f.params → Finishes funcs f.body n es (entry f arguments st) st' →
     Does funcs (Plain (instr.Call (suc index)) Nil) (n + 2) (λ p. es (waiting f st p ∷ p.frames)) (with_values st (arguments ++ st.values)) (given_back f st st')
 unfolding act plain

@@ -1,6 +1,6 @@
 -- Runs put one after another.
 use Rattle.std.proofs.Common.{◌≡◌, ℕ, suc, ◌+◌, List, [], ◌∷◌, ◌++◌, refl, sym, ap, ◌∙◌, subst, add_assoc, zero-add, arith, append-nil}
-use Rattle.wasm_tree.specs.Reduce.{Seq, Nil, Plain, InBlock, InLoop, InIf, Func, State, Label, Frame, Config, Step, To, Asks, Run, Emits, Out, exec, follow, at}
+use Rattle.wasm_tree.specs.Reduce.{Seq, Nil, Plain, InBlock, InLoop, InIf, Func, State, Label, CallFrame, Config, Step, To, Asks, Run, Emits, Out, exec, follow, at}
 use Rattle.wasm_steps.specs.Steps.{Emission, emitting, reduce, Leads, join, Place, quiet, Does, Meets, before}
 
 -- emissions one after another
@@ -115,13 +115,13 @@ restate_before {funcs} {code} {n} {es} {st = st} e does = let P : State → Type
 
 -- a sequence at the end of what it stands in
 pub does_last : {funcs : List Func} {code : Seq} {n : ℕ} {es : Place → List Emission} {st st' : State} → Does funcs code n es st st' →
-    (labels : List Label) (frames : List Frame) → Leads funcs n (es record { rest = Nil; labels = labels; frames = frames }) (at code st labels frames) (at Nil st' labels frames)
+    (labels : List Label) (frames : List CallFrame) → Leads funcs n (es record { rest = Nil; labels = labels; frames = frames }) (at code st labels frames) (at Nil st' labels frames)
 does_last {code = code} {st = st} does labels frames =
     leave_from (ap (λ a. at a st labels frames) (join-nil code)) (does.here record { rest = Nil; labels = labels; frames = frames })
 
 -- the same for a sequence whose last reduction is another step
 pub meets_last : {funcs : List Func} {code : Seq} {n : ℕ} {es : Place → List Emission} {st : State} {step : Place → Step} → (meets : Meets funcs code n es st step) →
-    (labels : List Label) (frames : List Frame) →
+    (labels : List Label) (frames : List CallFrame) →
     Leads funcs n (es record { rest = Nil; labels = labels; frames = frames }) (at code st labels frames) (meets.last record { rest = Nil; labels = labels; frames = frames })
 meets_last {code = code} {st = st} meets labels frames =
     leave_from (ap (λ a. at a st labels frames) (join-nil code)) (meets.leads record { rest = Nil; labels = labels; frames = frames })

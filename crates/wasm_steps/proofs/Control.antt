@@ -4,7 +4,7 @@ use Rattle.std.specs.Prelude.{slice_get}
 use Rattle.wasm_tree.specs.declared.module.ValType.{ValType}
 use Rattle.wasm_tree.specs.declared.instr.LabelTable.{LabelTable}
 use Rattle.wasm_tree.specs.declared.instr.Instr.TheVariants as instr
-use Rattle.wasm_tree.specs.Reduce.{Seq, Nil, Plain, InBlock, InLoop, InIf, Func, State, Label, Frame, Step, To, at, with_values, push, enter, arity_of, branch, plain, act}
+use Rattle.wasm_tree.specs.Reduce.{Seq, Nil, Plain, InBlock, InLoop, InIf, Func, State, Label, CallFrame, Step, To, at, with_values, push, enter, arity_of, branch, plain, act}
 use Rattle.wasm_steps.specs.Steps.{Emission, Leads, Place, start, quiet, branching, returning, Does, Meets, inside, block_label, loop_label, in_block_of, in_loop_of, Enters}
 use Rattle.wasm_steps.proofs.Compose.{stay, one, andthen, take_step, recount, does_last, meets_last, recode}
 use Rattle.std.proofs.lemmas.Bool.{cases_Bool}
@@ -46,13 +46,13 @@ unfolding act plain
 return st = record { last = start (Plain instr.Return Nil) st; leads = λ p. stay _; reduces = λ p. refl }
 
 -- where a branch leads past these labels
-pub branch-append : (front : List Label) (label : Label) (labels : List Label) (frames : List Frame) (st : State) →
+pub branch-append : (front : List Label) (label : Label) (labels : List Label) (frames : List CallFrame) (st : State) →
     branch (length front) st (front ++ label ∷ labels) frames ≡ To (at label.target (with_values st (take label.arity st.values ++ label.below)) labels frames)
 branch-append [] label labels frames st = refl
 branch-append (l ∷ front) label labels frames st = branch-append front label labels frames st
 
 -- a branch past all labels leads to the function's end
-pub branch_past : (labels : List Label) (depth : ℕ) (frames : List Frame) (st : State) → length labels < suc depth → branch depth st labels frames ≡ To (at Nil st [] frames)
+pub branch_past : (labels : List Label) (depth : ℕ) (frames : List CallFrame) (st : State) → length labels < suc depth → branch depth st labels frames ≡ To (at Nil st [] frames)
 branch_past [] depth frames st h = refl
 branch_past (l ∷ labels) zero frames st h = absurd (omega arith)
 branch_past (l ∷ labels) (suc depth) frames st h = branch_past labels depth frames st (omega arith)
@@ -60,7 +60,7 @@ branch_past (l ∷ labels) (suc depth) frames st h = branch_past labels depth fr
 -- ---- ends of sequences (4.4.6)
 
 -- the end of a block, a loop or an arm
-pub leaves : {funcs : List Func} (st : State) (label : Label) (labels : List Label) (frames : List Frame) →
+pub leaves : {funcs : List Func} (st : State) (label : Label) (labels : List Label) (frames : List CallFrame) →
     Leads funcs 1 [] (at Nil st (label ∷ labels) frames) (at label.rest (with_values st (st.values ++ label.below)) labels frames)
 unfolding act
 leaves st label labels frames = one refl

@@ -15,7 +15,7 @@ use Rattle.wasm_tree.specs.declared.instr.MemArg.{MemArg}
 use Rattle.wasm_tree.specs.declared.instr.Instr.{Instr}
 use Rattle.wasm_tree.specs.declared.instr.Instr.TheVariants as instr
 use Rattle.wasm_tree.specs.Meaning.{width, test_of, compare_of, unary_of, binary_of, convert_of, loaded, load_size, stored, store_size}
-use Rattle.wasm_tree.specs.Reduce.{Seq, Nil, Plain, Func, State, Label, Frame, Config, To, Traps, Sticks, at, push, if_there, write_bytes, page_size, plain, act, exec, follow}
+use Rattle.wasm_tree.specs.Reduce.{Seq, Nil, Plain, Func, State, Label, CallFrame, Config, To, Traps, Sticks, at, push, if_there, write_bytes, page_size, plain, act, exec, follow}
 use Rattle.wasm_steps.specs.Steps.{reduce, quiet, trapping, Does, Meets}
 use Rattle.wasm_steps.proofs.Compose.{one, stay, exec-zero, exec-suc}
 
@@ -23,7 +23,7 @@ use Rattle.wasm_steps.proofs.Compose.{one, stay, exec-zero, exec-suc}
 
 -- an instruction that goes on with what follows it
 pub plainly : {funcs : List Func} {i : Instr} {st st' : State} →
-    ((s : Seq) (ls : List Label) (fs : List Frame) → reduce funcs (at (Plain i s) st ls fs) ≡ To (at s st' ls fs)) → Does funcs (Plain i Nil) 1 quiet st st'
+    ((s : Seq) (ls : List Label) (fs : List CallFrame) → reduce funcs (at (Plain i s) st ls fs) ≡ To (at s st' ls fs)) → Does funcs (Plain i Nil) 1 quiet st st'
 plainly h = record { here = λ p. one (h p.rest p.labels p.frames) }
 
 -- two configurations with the same next reduction run alike
@@ -33,12 +33,12 @@ exec-same funcs c d h (suc k) = exec-suc funcs k c ∙ ap (λ s. follow s (exec 
 
 -- a constant is a value already: it takes no reduction
 pub absorbed : {funcs : List Func} {i : Instr} {st st' : State} →
-    ((s : Seq) (ls : List Label) (fs : List Frame) → reduce funcs (at (Plain i s) st ls fs) ≡ reduce funcs (at s st' ls fs)) → Does funcs (Plain i Nil) 0 quiet st st'
+    ((s : Seq) (ls : List Label) (fs : List CallFrame) → reduce funcs (at (Plain i s) st ls fs) ≡ reduce funcs (at s st' ls fs)) → Does funcs (Plain i Nil) 0 quiet st st'
 absorbed {funcs} h = record { here = λ p. record { by = λ k. ap (λ j. exec funcs j _) (zero-add k) ∙ exec-same funcs _ _ (h p.rest p.labels p.frames) k } }
 
 -- an instruction that traps
 pub traps : {funcs : List Func} {i : Instr} {st : State} →
-    ((s : Seq) (ls : List Label) (fs : List Frame) → reduce funcs (at (Plain i s) st ls fs) ≡ Traps) → Meets funcs (Plain i Nil) 0 quiet st trapping
+    ((s : Seq) (ls : List Label) (fs : List CallFrame) → reduce funcs (at (Plain i s) st ls fs) ≡ Traps) → Meets funcs (Plain i Nil) 0 quiet st trapping
 traps {i = i} {st} h = record { last = λ p. at (Plain i p.rest) st p.labels p.frames; leads = λ p. stay _; reduces = λ p. h p.rest p.labels p.frames }
 
 -- ---- constants (4.4.1)

@@ -8,7 +8,7 @@ use Rattle.wasm_tree.specs.declared.op.StoreOp.{StoreOp}
 use Rattle.wasm_tree.specs.declared.instr.LabelTable.{LabelTable}
 use Rattle.wasm_tree.specs.declared.instr.Instr.TheVariants as instr
 use Rattle.wasm_tree.specs.Meaning.{loaded, load_size, load_width, extended, stored, store_size, store_width}
-use Rattle.wasm_tree.specs.Reduce.{Seq, Nil, Plain, InBlock, InLoop, InIf, Func, State, Label, Frame, Config, Step, Done, Trapped, Out, at, with_values, push, arity_of, write_bytes, exec}
+use Rattle.wasm_tree.specs.Reduce.{Seq, Nil, Plain, InBlock, InLoop, InIf, Func, State, Label, CallFrame, Config, Step, Done, Trapped, Out, at, with_values, push, arity_of, write_bytes, exec}
 use Rattle.wasm_steps.specs.Steps.{Emission, emitting, Leads, is_over, Upto, join, Place, Does, Meets, branching, returning, trapping, before, in_block_of, in_loop_of, bottom, Finishes, entry, given_back, waiting, emission_of, nest, within}
 use Rattle.wasm_steps.specs.Windows.{window, Apart}
 use Rattle.wasm_steps.specs.Example.{FillRuns}
@@ -55,7 +55,7 @@ LoopsEnd extra = (funcs : List Func) (result : Option ValType) (body : Seq) (n :
 
 -- a call of a function of the module, of which the first has number 1
 abbrev pub Calls : (extra : ℕ) → Type 0
-Calls extra = (funcs : List Func) (f : Func) (index n : ℕ) (arguments : List ℕ) (es : List Frame → List Emission) (st st' : State) →
+Calls extra = (funcs : List Func) (f : Func) (index n : ℕ) (arguments : List ℕ) (es : List CallFrame → List Emission) (st st' : State) →
     slice_get funcs index ≡ Some f → length arguments ≡ f.params → Finishes funcs f.body n es (entry f arguments st) st' →
     Does funcs (Plain (instr.Call (suc index)) Nil) (n + extra) (λ p. es (waiting f st p ∷ p.frames)) (with_values st (arguments ++ st.values)) (given_back f st st')
 
@@ -74,7 +74,7 @@ HostCalls cost = (funcs : List Func) (st : State) (x : ℕ) → Does funcs (Plai
 
 -- a local selects what follows nested blocks
 abbrev pub Dispatches : (extra : ℕ) → Type 0
-Dispatches extra = (funcs : List Func) (front : List Seq) (code : Seq) (back : List Seq) (table : LabelTable) (local x : ℕ) (st : State) (labels : List Label) (frames : List Frame) →
+Dispatches extra = (funcs : List Func) (front : List Seq) (code : Seq) (back : List Seq) (table : LabelTable) (local x : ℕ) (st : State) (labels : List Label) (frames : List CallFrame) →
     slice_get st.locals local ≡ Some x → unwrap_or (slice_get table.labels x) table.other ≡ length front →
     Leads funcs (length (front ++ code ∷ back) + extra) []
     (at (nest (front ++ code ∷ back) (Plain (instr.LocalGet local) (Plain (instr.BrTable table) Nil))) (with_values st []) labels frames)
@@ -102,7 +102,7 @@ IsSpent = (funcs : List Func) (n m : ℕ) (es : List Emission) (c d : Config) �
 
 -- a call from outside ends with every number of reductions past those that lead to its last one
 abbrev pub CallsFromOutsideEnd : Type 0
-CallsFromOutsideEnd = (funcs : List Func) (body : Seq) (n m : ℕ) (es : List Frame → List Emission) (st st' : State) → Finishes funcs body n es st st' → n < m →
+CallsFromOutsideEnd = (funcs : List Func) (body : Seq) (n m : ℕ) (es : List CallFrame → List Emission) (st st' : State) → Finishes funcs body n es st st' → n < m →
     exec funcs m (at body st [] []) ≡ emitting (es []) (Done st'.globals st'.memory)
 
 -- or traps with them

@@ -3,7 +3,7 @@
 use Rattle.std.specs.Prelude.{◌≡◌, ℕ, ◌+◌, List, [], ◌∷◌, ◌++◌, take, reverse, replicate, Bool, true, false, Option, None, ℤ}
 use Rattle.std.specs.Int.{w32, cast_signed}
 use Rattle.wasm_tree.specs.declared.module.ValType.{ValType}
-use Rattle.wasm_tree.specs.Reduce.{Seq, Nil, Plain, InBlock, InLoop, InIf, Func, State, Label, Frame, Config, Step, To, Asks, Traps, Run, Done, Trapped, Out, Stuck, Emits, at, arity_of, act, give_back, branch, exec}
+use Rattle.wasm_tree.specs.Reduce.{Seq, Nil, Plain, InBlock, InLoop, InIf, Func, State, Label, CallFrame, Config, Step, To, Asks, Traps, Run, Done, Trapped, Out, Stuck, Emits, at, arity_of, act, give_back, branch, exec}
 
 -- ---- configurations
 
@@ -64,7 +64,7 @@ join (InIf result first second s) rest = InIf result first second (join s rest)
 pub record Place : Type 0 where
   pub rest : Seq
   pub labels : List Label
-  pub frames : List Frame
+  pub frames : List CallFrame
 
 -- a sequence about to run at a place
 abbrev pub start : Seq → State → Place → Config
@@ -137,15 +137,15 @@ pub record Enters (funcs : List Func) (code body : Seq) (st inner : State) (labe
 -- ---- functions
 
 -- the end of a function's body under its callers
-abbrev pub bottom : List Frame → Place
+abbrev pub bottom : List CallFrame → Place
 bottom frames = record { rest = Nil; labels = []; frames = frames }
 
 -- A body runs from its start: n reductions lead to the one that ends the function, which may be the end of
 -- the body, a branch past all labels or a `return`.
-pub record Finishes (funcs : List Func) (body : Seq) (n : ℕ) (es : List Frame → List Emission) (st st' : State) : Type 0 where
-  pub last : List Frame → Config
-  pub leads : (frames : List Frame) → Leads funcs n (es frames) (at body st [] frames) (last frames)
-  pub reduces : (frames : List Frame) → reduce funcs (last frames) ≡ give_back st' frames
+pub record Finishes (funcs : List Func) (body : Seq) (n : ℕ) (es : List CallFrame → List Emission) (st st' : State) : Type 0 where
+  pub last : List CallFrame → Config
+  pub leads : (frames : List CallFrame) → Leads funcs n (es frames) (at body st [] frames) (last frames)
+  pub reduces : (frames : List CallFrame) → reduce funcs (last frames) ≡ give_back st' frames
 
 -- the state in which a function begins: its arguments, the last first, and its further locals at 0
 abbrev pub entry : Func → List ℕ → State → State
@@ -156,7 +156,7 @@ abbrev pub given_back : Func → State → State → State
 given_back f st st' = record { values = take f.results st'.values ++ st.values; locals = st.locals; globals = st'.globals; memory = st'.memory }
 
 -- the caller as it waits
-abbrev pub waiting : Func → State → Place → Frame
+abbrev pub waiting : Func → State → Place → CallFrame
 waiting f st p = record { arity = f.results; rest = p.rest; values = st.values; locals = st.locals; labels = p.labels }
 
 -- a call of the host from a place, with the operand as its number

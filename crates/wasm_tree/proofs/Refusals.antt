@@ -10,7 +10,7 @@ use Rattle.wasm_tree.specs.declared.module.ExportEntry.{ExportEntry}
 use Rattle.wasm_tree.specs.declared.module.ExportKind.TheVariants as exported
 use Rattle.wasm_tree.specs.declared.module.FuncType.{FuncType}
 use Rattle.wasm_tree.specs.declared.module.Module.{Module}
-use Rattle.wasm_tree.specs.Section.{Section}
+use Rattle.wasm_tree.specs.Section.{CmajorSection}
 use Rattle.wasm_tree.specs.Host.{HasExports, IsExported, exported_functions}
 use Rattle.wasm_tree.specs.Valid.{Valid}
 use Rattle.wasm_tree.specs.Refusal.{Holder, InTypes, InImports, InFunctions, InMemories, InGlobals, InExports, InCodes, InSegments, InCmajor, InSecondCmajor, Missing, BreaksAt, Breaks, Exports, export_names}
@@ -27,12 +27,12 @@ functions_named m [] all = tt
 functions_named m (w ∷ wanted) all = (named m (record { name = w.0; kind = exported.Function all.0.number }) all.0.entry, functions_named m wanted all.1)
 
 -- a valid module exports something under each name that its section asks for
-all_named : (m : Module) (section : Section) (name : List ℕ) → HasExports m section → Contains (export_names section) name → Exports m name
+all_named : (m : Module) (section : CmajorSection) (name : List ℕ) → HasExports m section → Contains (export_names section) name → Exports m name
 all_named m section name h wanted =
     All-contains (Exports m) (export_names section) name
     (All-from_recursion (Exports m) (export_names section) (named m (record { name = codes "memory"; kind = exported.Memory 0 }) h.memory, functions_named m (exported_functions section) h.functions)) wanted
 
-invalid_at : (m : Module) (rule : ModuleRule) (part : Holder) (section : Section) → BreaksAt m rule part → Valid m section → ⊥
+invalid_at : (m : Module) (rule : ModuleRule) (part : Holder) (section : CmajorSection) → BreaksAt m rule part → Valid m section → ⊥
 invalid_at m rule.Index InImports section b v = b v.index.imports
 invalid_at m rule.Index InFunctions section b v = b v.index.functions
 invalid_at m rule.Index InExports section b v = b v.index.exports
@@ -57,5 +57,5 @@ invalid_at m rule.Cmajor InSecondCmajor section b v = let one = v.cmajor.describ
 invalid_at m rule.Cmajor Missing section b v = let one = v.cmajor.described.only in cc
 invalid_at m rule part section b v = b
 
-pub breaks_invalid : (rule : ModuleRule) (m : Module) (section : Section) → Breaks rule m → Valid m section → ⊥
+pub breaks_invalid : (rule : ModuleRule) (m : Module) (section : CmajorSection) → Breaks rule m → Valid m section → ⊥
 breaks_invalid rule m section b v = invalid_at m rule b.0 section b.1 v

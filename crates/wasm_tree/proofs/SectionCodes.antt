@@ -16,7 +16,7 @@ use Rattle.wasm_tree.specs.declared.interface.Interface.TheVariants.{Single, Blo
 use Rattle.wasm_tree.specs.declared.module.Custom.{Custom}
 use Rattle.wasm_tree.specs.declared.module.Module.{Module}
 use Rattle.wasm_tree.specs.Spelled.{Joined, Begins, Index, Signed}
-use Rattle.wasm_tree.specs.Section.{Slot, Section, flow_byte, kind_byte, Scalar_kind, Run, Spelled_run, Runs, Parameter, Spelled_slot, Spelled_interface, Spelled_section, IsSection}
+use Rattle.wasm_tree.specs.Section.{Slot, CmajorSection, flow_byte, kind_byte, Scalar_kind, KindRun, Spelled_run, Runs, Parameter, Spelled_slot, Spelled_interface, Spelled_section, IsSection}
 use Rattle.wasm_tree.proofs.PrefixCodes.{IsCode, IsPrefixCode, behind, joined_code, byte_code, begins_code, unsigned_code, signed_code, vector_code, utf8_code}
 
 -- ---- bytes that stand for a flow or a kind
@@ -91,7 +91,7 @@ kind_code x y f g r s p q e = kind_code_at x y f g r s p q e (heads_same (scalar
 
 -- ---- shapes
 
-scalars_of : Run → List Scalar
+scalars_of : KindRun → List Scalar
 scalars_of run = replicate run.count run.kind
 
 run_code : IsCode scalars_of Spelled_run
@@ -175,7 +175,7 @@ interface_code (Blocks b) (Blocks c) l k f g r s p q e =
     let i = joined_code (λ n. n) (λ n. n) Index Index (unsigned_code 32) (unsigned_code 32) l k b c p.back q.back r s p.second q.second a.1 in
     (ap Blocks i.1, i.0, i.2)
 
-section_with : Interface → ℕ → List Slot → Section
+section_with : Interface → ℕ → List Slot → CmajorSection
 section_with interface latency slots = record { interface = interface; latency = latency; slots = slots }
 
 pub section_code : IsPrefixCode Spelled_section
@@ -187,7 +187,7 @@ section_code x y f g r s p q e =
     (ap (λ i. section_with i x.latency x.slots) a.0 ∙ (ap (λ (n : ℕ). section_with y.interface n x.slots) a.1 ∙ ap (section_with y.interface y.latency) slots), b.1)
 
 -- a module has just one section `cmajor`, so it has one content
-pub section_unique : (m : Module) (s t : Section) → IsSection m s → IsSection m t → s ≡ t
+pub section_unique : (m : Module) (s t : CmajorSection) → IsSection m s → IsSection m t → s ≡ t
 section_unique m s t p q =
     let only : p.custom ∷ [] ≡ q.custom ∷ [] = sym p.only ∙ q.only in
     let same : p.custom ≡ q.custom = cc only in

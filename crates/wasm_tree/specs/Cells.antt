@@ -3,7 +3,7 @@
 -- held before the next reduction.
 use Rattle.std.specs.Prelude.{ℕ, zero, suc, ◌+◌, List, length, sum_by}
 use Rattle.wasm_tree.specs.declared.instr.Instr.TheVariants as instr
-use Rattle.wasm_tree.specs.Reduce.{Seq, Plain, Label, Frame, Config}
+use Rattle.wasm_tree.specs.Reduce.{Seq, Plain, Label, CallFrame, Config}
 
 -- how many constants come next
 abbrev pub next_constants : Seq → ℕ
@@ -16,7 +16,7 @@ abbrev pub cells_below : List Label → ℕ
 cells_below labels = sum_by (λ label. length label.below) labels
 
 -- the locals and operands of a caller that waits
-abbrev pub cells_of_frame : Frame → ℕ
+abbrev pub cells_of_frame : CallFrame → ℕ
 cells_of_frame frame = length frame.locals + length frame.values + cells_below frame.labels
 
 -- the locals and operands of the function that runs, those of its callers, and the constants that come next

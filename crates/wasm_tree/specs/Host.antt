@@ -12,7 +12,7 @@ use Rattle.wasm_tree.specs.declared.module.ExportKind.TheVariants as exported
 use Rattle.wasm_tree.specs.declared.module.Module.{Module}
 use Rattle.wasm_tree.specs.declared.interface.Interface.{Interface}
 use Rattle.wasm_tree.specs.declared.interface.Interface.TheVariants.{Single, Blocks}
-use Rattle.wasm_tree.specs.Section.{Section, ends_of}
+use Rattle.wasm_tree.specs.Section.{CmajorSection, ends_of}
 use Rattle.wasm_tree.specs.Numbers.{no_type, emit_type, function_types}
 
 -- the one import: the function `emit` of `host`
@@ -39,7 +39,7 @@ abbrev pub frame_export : Interface → List ℕ × FuncType
 frame_export Single = (codes "frame", no_type)
 frame_export (Blocks block) = (codes "frames", emit_type)
 
-abbrev pub exported_functions : Section → List (List ℕ × FuncType)
+abbrev pub exported_functions : CmajorSection → List (List ℕ × FuncType)
 exported_functions section =
     (codes "init", no_type) ∷ frame_export section.interface ∷ event_exports 0 (event_inputs (ends_of section))
 
@@ -50,7 +50,7 @@ pub record IsExported (m : Module) (wanted : List ℕ × FuncType) : Type 0 wher
   pub typed : slice_get (function_types m) number ≡ Some wanted.1
 
 -- these are exported, each once, and nothing else is
-pub record HasExports (m : Module) (section : Section) : Type 0 where
+pub record HasExports (m : Module) (section : CmajorSection) : Type 0 where
   pub memory : Contains m.exports (record { name = codes "memory"; kind = exported.Memory 0 })
   pub functions : AllByRecursion (IsExported m) (exported_functions section)
   pub distinct : AreDistinct (map (λ entry. entry.name) m.exports)

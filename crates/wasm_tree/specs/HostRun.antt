@@ -15,14 +15,14 @@ use Rattle.wasm_tree.specs.declared.module.Module.{Module}
 use Rattle.wasm_tree.specs.Calls.{Heard, Returned, Marked, Exhausted, Failed, heard}
 use Rattle.wasm_tree.specs.Instance.{funcs_of, call_of, first_globals, first_memory}
 use Rattle.wasm_tree.specs.Reduce.{Config, exec}
-use Rattle.wasm_tree.specs.Section.{Section, Slot, ends_of}
+use Rattle.wasm_tree.specs.Section.{CmajorSection, Slot, ends_of}
 use Rattle.wasm_tree.specs.Slots.{write_inputs, write_block, write_values, write_event, event_name, outputs_at}
 
 -- what a host calls: a module, what its section says, and how many reductions a call may take, or a stretch of
 -- a call of `frames`
 pub record Machine : Type 0 where
   pub «module» : Module
-  pub section : Section
+  pub section : CmajorSection
   pub steps : ℕ
 
 -- a call of `frames` that has frames left: where it goes on, how many frames it has told, and of how many
@@ -123,7 +123,7 @@ module_part machine (Frame frame inputs) following instance = frame_part machine
 
 -- ---- runs
 
-abbrev pub module_player : Module → Section → Player Instance
+abbrev pub module_player : Module → CmajorSection → Player Instance
 module_player m section =
     record {
       set = λ endpoint value instance. record instance { current = slice_set instance.current endpoint value };
@@ -135,31 +135,31 @@ module_player m section =
 abbrev pub zeros_of : List HostEnd → List (List ℤ)
 zeros_of ends = map (λ end. replicate (length end.shape) (pos 0)) ends
 
-abbrev pub first_instance : Module → Section → Instance
+abbrev pub first_instance : Module → CmajorSection → Instance
 first_instance m section =
     record { globals = first_globals m; memory = first_memory m; current = zeros_of (ends_of section); block = None; trace = [] }
 
 -- where a run of tasks stops that begins with this instance, with a budget of so many reductions
-abbrev pub module_stops : Module → Section → List Task → Instance → (steps : ℕ) → Stop Instance
+abbrev pub module_stops : Module → CmajorSection → List Task → Instance → (steps : ℕ) → Stop Instance
 module_stops m section tasks first steps = stops (module_player m section) steps tasks first
 
-abbrev pub module_play : Module → Section → List Task → Instance → (steps : ℕ) → Outcome
+abbrev pub module_play : Module → CmajorSection → List Task → Instance → (steps : ℕ) → Outcome
 module_play m section tasks first steps = play (module_player m section) steps tasks first
 
 -- how the part of this number comes out
-abbrev pub module_play_part : Module → Section → List Task → Instance → (steps number : ℕ) → PartEnd
+abbrev pub module_play_part : Module → CmajorSection → List Task → Instance → (steps number : ℕ) → PartEnd
 module_play_part m section tasks first steps number = play_part (module_player m section) steps steps number tasks first
 
-abbrev pub host_tasks : Section → List Saved → Script → (frames : ℕ) → List Task
+abbrev pub host_tasks : CmajorSection → List Saved → Script → (frames : ℕ) → List Task
 host_tasks section saved script frames = tasks_of (ends_of section) saved script frames
 
 -- the run of the module over so many frames
-abbrev pub host_run : Module → Section → List Saved → Script → (frames steps : ℕ) → Outcome
+abbrev pub host_run : Module → CmajorSection → List Saved → Script → (frames steps : ℕ) → Outcome
 host_run m section saved script frames steps = module_play m section (host_tasks section saved script frames) (first_instance m section) steps
 
-abbrev pub host_stops : Module → Section → List Saved → Script → (frames steps : ℕ) → Stop Instance
+abbrev pub host_stops : Module → CmajorSection → List Saved → Script → (frames steps : ℕ) → Stop Instance
 host_stops m section saved script frames steps = module_stops m section (host_tasks section saved script frames) (first_instance m section) steps
 
-abbrev pub host_part : Module → Section → List Saved → Script → (frames steps number : ℕ) → PartEnd
+abbrev pub host_part : Module → CmajorSection → List Saved → Script → (frames steps number : ℕ) → PartEnd
 host_part m section saved script frames steps number =
     module_play_part m section (host_tasks section saved script frames) (first_instance m section) steps number

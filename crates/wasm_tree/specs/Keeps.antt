@@ -8,7 +8,7 @@ use Rattle.cm_base.specs.Parts.{Part}
 use Rattle.cm_base.specs.Players.{Ended, Trapped, Outcome, PartEnd, NotBegun, PartEnds, PartSpent, Source, source_run, source_part}
 use Rattle.cm_base.specs.Scripts.{IsScriptFor, AreSaved}
 use Rattle.wasm_tree.specs.declared.module.Module.{Module}
-use Rattle.wasm_tree.specs.Section.{Section, ends_of}
+use Rattle.wasm_tree.specs.Section.{CmajorSection, ends_of}
 use Rattle.wasm_tree.specs.Valid.{Valid}
 use Rattle.wasm_tree.specs.HostRun.{host_run, host_part}
 use Rattle.wasm_tree.specs.Stopped.{KeepsStopped}
@@ -39,7 +39,7 @@ pub record KeepsRun (cost : ℕ) (source target : ℕ → Outcome) (source_part 
       target_part (cost * (n + 1)) number ≡ PartEnds
 
 -- every script for the endpoints, of any length, saved parameters in their ranges, and frames of the script
-abbrev pub KeepsRuns : {World : Type 0} → Source World → Module → Section → Type 0
+abbrev pub KeepsRuns : {World : Type 0} → Source World → Module → CmajorSection → Type 0
 KeepsRuns source m section =
     (saved : List Saved) (script : Script) (frames : ℕ) → AreSaved source.ends saved → IsScriptFor source.ends script → frames ≤ script.frames →
     KeepsRun source.cost (source_run source saved script frames) (host_run m section saved script frames)
@@ -48,7 +48,7 @@ KeepsRuns source m section =
 -- The module is valid, its section has the endpoints of the source in order and its latency, and it keeps
 -- the source's runs, also those that are stopped and resumed.
 pub record Keeps {World : Type 0} (source : Source World) (m : Module) : Type 0 where
-  pub section : Section
+  pub section : CmajorSection
   pub valid : Valid m section
   pub endpoints : ends_of section ≡ source.ends
   pub delay : section.latency ≡ source.latency

@@ -85,7 +85,7 @@ pub record Label : Type 0 where
   pub rest : Seq
 
 -- a caller that waits: how many values the called function gives back, and where the caller goes on
-pub record Frame : Type 0 where
+pub record CallFrame : Type 0 where
   pub arity : ℕ
   pub rest : Seq
   pub values : List ℕ
@@ -97,7 +97,7 @@ pub record Config : Type 0 where
   pub code : Seq
   pub state : State
   pub labels : List Label
-  pub frames : List Frame
+  pub frames : List CallFrame
 
 -- what one reduction does: it goes on, calls the host with a number, ends the call, or traps. Code that
 -- isn't valid can get stuck
@@ -108,7 +108,7 @@ pub data Step : Type 0 where
   Traps : Step
   Sticks : Step
 
-abbrev pub at : Seq → State → List Label → List Frame → Config
+abbrev pub at : Seq → State → List Label → List CallFrame → Config
 at code state labels frames = record { code = code; state = state; labels = labels; frames = frames }
 
 abbrev pub with_values : State → List ℕ → State
@@ -138,29 +138,29 @@ arity_of (Some type) = 1
 -- ---- control (4.4.5, 4.4.6, 4.4.7)
 
 -- enters a sequence under a new label
-abbrev pub enter : ℕ → Seq → Seq → Seq → State → List ℕ → List Label → List Frame → Step
+abbrev pub enter : ℕ → Seq → Seq → Seq → State → List ℕ → List Label → List CallFrame → Step
 enter arity target body rest st below labels frames =
     To (at body (with_values st []) (record { arity = arity; target = target; below = below; rest = rest } ∷ labels) frames)
 
 -- the end of a function, or a `return`: its results go to the caller, or the call from outside ends
-abbrev pub give_back : State → List Frame → Step
+abbrev pub give_back : State → List CallFrame → Step
 give_back st [] = Ends st.globals st.memory
 give_back st (frame ∷ frames) =
     To (at frame.rest (record { values = take frame.arity st.values ++ frame.values; locals = frame.locals; globals = st.globals; memory = st.memory }) frame.labels frames)
 
 -- the end of a sequence
-abbrev pub leave : State → List Label → List Frame → Step
+abbrev pub leave : State → List Label → List CallFrame → Step
 leave st [] frames = give_back st frames
 leave st (label ∷ labels) frames = To (at label.rest (with_values st (st.values ++ label.below)) labels frames)
 
 -- a branch to the label of this number, the innermost being 0; past the last one it leads to the function's end
-abbrev pub branch : ℕ → State → List Label → List Frame → Step
+abbrev pub branch : ℕ → State → List Label → List CallFrame → Step
 branch n st [] frames = To (at Nil st [] frames)
 branch zero st (label ∷ labels) frames = To (at label.target (with_values st (take label.arity st.values ++ label.below)) labels frames)
 branch (suc n) st (label ∷ labels) frames = branch n st labels frames
 
 -- a call: the parameters are the last operands, and the further locals are 0
-abbrev pub enter_function : Func → Seq → State → List Label → List Frame → Step
+abbrev pub enter_function : Func → Seq → State → List Label → List CallFrame → Step
 enter_function f rest st labels frames =
     if nat_lt (length st.values) f.params then Sticks
     else To (at f.body
@@ -169,7 +169,7 @@ enter_function f rest st labels frames =
     (record { arity = f.results; rest = rest; values = drop f.params st.values; locals = st.locals; labels = labels } ∷ frames))
 
 -- function 0 is the imported `emit`, and the module's own follow
-abbrev pub call : List Func → ℕ → Seq → State → List Label → List Frame → Step
+abbrev pub call : List Func → ℕ → Seq → State → List Label → List CallFrame → Step
 call funcs zero rest st labels frames =
     on_top st.values (λ x xs. Asks (cast_signed w32 x) st.memory (at rest (with_values st xs) labels frames))
 call funcs (suc n) rest st labels frames = if_there (slice_get funcs n) Sticks (λ f. enter_function f rest st labels frames)
@@ -194,7 +194,7 @@ store_at memory address size bytes go = if nat_le (address + size) (length memor
 
 -- One instruction other than a block, loop or `if`, with the sequence that follows it. A constant is a
 -- value already, so what follows it reduces with it: `next` does that.
-unfoldable pub plain : List Func → (State → Step) → Instr → Seq → State → List Label → List Frame → Step
+unfoldable pub plain : List Func → (State → Step) → Instr → Seq → State → List Label → List CallFrame → Step
 plain funcs next instr.Unreachable s st ls fs = Traps
 plain funcs next instr.Nop s st ls fs = To (at s st ls fs)
 plain funcs next (instr.Br label) s st ls fs = branch label st ls fs
@@ -239,7 +239,7 @@ plain funcs next instr.Else s st ls fs = Sticks
 plain funcs next instr.End s st ls fs = Sticks
 
 -- one reduction. A loop's label leads to the loop again and takes nothing along
-unfoldable pub act : List Func → Seq → State → List Label → List Frame → Step
+unfoldable pub act : List Func → Seq → State → List Label → List CallFrame → Step
 act funcs Nil st ls fs = leave st ls fs
 act funcs (Plain i s) st ls fs = plain funcs (λ next. act funcs s next ls fs) i s st ls fs
 act funcs (InBlock result body s) st ls fs = enter (arity_of result) s body s st st.values ls fs

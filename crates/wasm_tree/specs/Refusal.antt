@@ -7,7 +7,7 @@ use Rattle.wasm_tree.specs.declared.failure.ModuleRefused.{ModuleRefused}
 use Rattle.wasm_tree.specs.declared.module.Custom.{Custom}
 use Rattle.wasm_tree.specs.declared.module.Module.{Module}
 use Rattle.wasm_tree.specs.Spelled.{Joined, Is, Each, Raw, RawSection, CustomsAre, Custom_contents, header, is_cmajor}
-use Rattle.wasm_tree.specs.Section.{Section, IsSection, named_cmajor}
+use Rattle.wasm_tree.specs.Section.{CmajorSection, IsSection, named_cmajor}
 use Rattle.wasm_tree.specs.Host.{HasImport, HasExports, exported_functions}
 use Rattle.wasm_tree.specs.Valid.{AreImportsIndexed, AreFunctionsIndexed, AreExportsIndexed, AreBodiesIndexed, AreSegmentsIndexed, HasMemory, AreBodiesWithinLimits, HaveFewResults, AreGlobalsTyped, AreBodiesTyped, CallCycle, Segment, Cmajor}
 
@@ -29,7 +29,7 @@ pub data Holder : Type 0 where
   Missing : Holder
 
 -- the names under which a module with this section exports
-abbrev pub export_names : Section → List (List ℕ)
+abbrev pub export_names : CmajorSection → List (List ℕ)
 export_names section = codes "memory" ∷ map (λ wanted. wanted.0) (exported_functions section)
 
 abbrev pub Exports : Module → List ℕ → Type 0
@@ -37,7 +37,7 @@ Exports m name = Contains (map (λ entry. entry.name) m.exports) name
 
 -- nothing is exported under a name that the section asks for
 pub record LacksExport (m : Module) : Type 0 where
-  pub section : Section
+  pub section : CmajorSection
   pub described : IsSection m section
   pub name : List ℕ
   pub wanted : Contains (export_names section) name
@@ -45,7 +45,7 @@ pub record LacksExport (m : Module) : Type 0 where
 
 -- something is exported under each name, and yet the exports aren't those that the section asks for
 pub record HasOtherExports (m : Module) : Type 0 where
-  pub section : Section
+  pub section : CmajorSection
   pub described : IsSection m section
   pub complete : AllByRecursion (Exports m) (export_names section)
   pub others : HasExports m section → ⊥
@@ -54,7 +54,7 @@ pub record HasOtherExports (m : Module) : Type 0 where
 pub record IsMisdescribed (m : Module) : Type 0 where
   pub custom : Custom
   pub only : named_cmajor m.customs ≡ custom ∷ []
-  pub misdescribes : (section : Section) → Cmajor m section → ⊥
+  pub misdescribes : (section : CmajorSection) → Cmajor m section → ⊥
 
 -- there are two sections `cmajor`, or more
 pub record HasSecondCmajor (m : Module) : Type 0 where

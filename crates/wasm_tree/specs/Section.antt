@@ -23,7 +23,7 @@ pub record Slot : Type 0 where
   pub address : ℕ
 
 -- what the section says: the interface, the latency in frames, and the endpoints with their slots
-pub record Section : Type 0 where
+pub record CmajorSection : Type 0 where
   pub interface : Interface
   pub latency : ℕ
   pub slots : List Slot
@@ -33,7 +33,7 @@ abbrev pub block_length : Interface → ℕ
 block_length Single = 1
 block_length (Blocks block) = block
 
-abbrev pub ends_of : Section → List HostEnd
+abbrev pub ends_of : CmajorSection → List HostEnd
 ends_of section = map (λ slot. slot.end) section.slots
 
 -- slots from endpoints and addresses in the same order
@@ -61,17 +61,17 @@ Scalar_kind (scalar.Wrap n) = Begins 3 (Index n)
 Scalar_kind (scalar.Clamp n) = Begins 4 (Index n)
 
 -- scalars of one kind that follow one another
-pub record Run : Type 0 where
+pub record KindRun : Type 0 where
   pub count : ℕ
   pub kind : Scalar
   pub some : 1 ≤ count
 
-abbrev pub Spelled_run : Run → List ℕ → Type 0
+abbrev pub Spelled_run : KindRun → List ℕ → Type 0
 Spelled_run run = Joined (Index run.count) (Scalar_kind run.kind)
 
 -- a shape in runs, which may be as long as they can be or shorter
 pub record Runs (shape : List Scalar) (bytes : List ℕ) : Type 0 where
-  pub runs : List Run
+  pub runs : List KindRun
   pub spelled : Vector Spelled_run runs bytes
   pub whole : shape ≡ flat_map (λ run. replicate run.count run.kind) runs
 
@@ -89,7 +89,7 @@ abbrev pub Spelled_interface : Interface → ℕ → List ℕ → Type 0
 Spelled_interface Single latency = Begins 1 (Index latency)
 Spelled_interface (Blocks block) latency = Begins 2 (Joined (Index latency) (Index block))
 
-abbrev pub Spelled_section : Section → List ℕ → Type 0
+abbrev pub Spelled_section : CmajorSection → List ℕ → Type 0
 Spelled_section section = Joined (Spelled_interface section.interface section.latency) (Vector Spelled_slot section.slots)
 
 -- a block has 1 to 256 frames
@@ -109,18 +109,18 @@ abbrev pub shape_size : List Scalar → ℕ
 shape_size shape = sum_by scalar_size shape
 
 -- a stream's slot has an entry for each frame of a block, another slot has one
-abbrev pub entries : Section → HostEnd → ℕ
+abbrev pub entries : CmajorSection → HostEnd → ℕ
 entries section end = if is_stream end.kind then block_length section.interface else 1
 
-abbrev pub slot_size : Section → HostEnd → ℕ
+abbrev pub slot_size : CmajorSection → HostEnd → ℕ
 slot_size section end = entries section end * shape_size end.shape
 
 -- a slot lies in so many bytes; one without scalars has nothing that must
-abbrev pub IsWithin : ℕ → Section → Slot → Type 0
+abbrev pub IsWithin : ℕ → CmajorSection → Slot → Type 0
 IsWithin bytes section slot = 0 < slot_size section slot.end → slot.address + slot_size section slot.end ≤ bytes
 
 -- the slots lie in the memory's minimum size
-abbrev pub AreWithin : ℕ → Section → Type 0
+abbrev pub AreWithin : ℕ → CmajorSection → Type 0
 AreWithin bytes section = AllByRecursion (IsWithin bytes section) section.slots
 
 -- ---- the section of a module
@@ -129,7 +129,7 @@ abbrev pub named_cmajor : List Custom → List Custom
 named_cmajor customs = filter (λ custom. is_cmajor custom.name) customs
 
 -- the module has just one such section, and it says this
-pub record IsSection (m : Module) (section : Section) : Type 0 where
+pub record IsSection (m : Module) (section : CmajorSection) : Type 0 where
   pub custom : Custom
   pub only : named_cmajor m.customs ≡ custom ∷ []
   pub spelled : Spelled_section section custom.bytes

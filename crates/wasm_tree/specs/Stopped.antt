@@ -18,7 +18,7 @@ use Rattle.wasm_tree.specs.declared.module.GlobalVar.{GlobalVar}
 use Rattle.wasm_tree.specs.declared.module.Module.{Module}
 use Rattle.wasm_tree.specs.HostRun.{Instance, module_play, module_stops, host_stops}
 use Rattle.wasm_tree.specs.Instance.{constant_of}
-use Rattle.wasm_tree.specs.Section.{Section, ends_of}
+use Rattle.wasm_tree.specs.Section.{CmajorSection, ends_of}
 use Rattle.wasm_tree.specs.Slots.{is_value_input, others_of}
 
 -- ---- two scripts as one
@@ -89,11 +89,11 @@ restored_current (end ∷ ends) kept =
     (if is_value_input end then take (length end.shape) kept else replicate (length end.shape) (pos 0))
     ∷ restored_current ends (if is_value_input end then drop (length end.shape) kept else kept)
 
-abbrev pub snapshot_of : Module → Section → Instance → Snapshot
+abbrev pub snapshot_of : Module → CmajorSection → Instance → Snapshot
 snapshot_of m section instance =
     record { memory = instance.memory; globals = kept_globals m.globals instance.globals; current = kept_current (ends_of section) instance.current }
 
-abbrev pub restored_instance : Module → Section → Snapshot → Instance
+abbrev pub restored_instance : Module → CmajorSection → Snapshot → Instance
 restored_instance m section snapshot =
     record {
       globals = restored_globals m.globals snapshot.globals;
@@ -104,7 +104,7 @@ restored_instance m section snapshot =
     }
 
 -- the snapshot at the end of a run over all frames of the script that ends
-pub record IsSnapshotAfter (m : Module) (section : Section) (saved : List Saved) (script : Script) (steps : ℕ) (snapshot : Snapshot) : Type 0 where
+pub record IsSnapshotAfter (m : Module) (section : CmajorSection) (saved : List Saved) (script : Script) (steps : ℕ) (snapshot : Snapshot) : Type 0 where
   pub instance : Instance
   pub ends : host_stops m section saved script script.frames steps ≡ AtEnd instance
   pub is : snapshot ≡ snapshot_of m section instance
@@ -112,19 +112,19 @@ pub record IsSnapshotAfter (m : Module) (section : Section) (saved : List Saved)
 -- ---- resumed runs
 
 -- no inits and no starting values: the frames alone, from 0
-abbrev pub resumed_tasks : Section → Script → (frames : ℕ) → List Task
+abbrev pub resumed_tasks : CmajorSection → Script → (frames : ℕ) → List Task
 resumed_tasks section script frames = frames_from (ends_of section) script 0 frames
 
-abbrev pub resumed_run : Module → Section → Snapshot → Script → (frames steps : ℕ) → Outcome
+abbrev pub resumed_run : Module → CmajorSection → Snapshot → Script → (frames steps : ℕ) → Outcome
 resumed_run m section snapshot script frames steps = module_play m section (resumed_tasks section script frames) (restored_instance m section snapshot) steps
 
 -- where it stops, for the snapshot that it leaves
-abbrev pub resumed_stops : Module → Section → Snapshot → Script → (frames steps : ℕ) → Stop Instance
+abbrev pub resumed_stops : Module → CmajorSection → Snapshot → Script → (frames steps : ℕ) → Stop Instance
 resumed_stops m section snapshot script frames steps = module_stops m section (resumed_tasks section script frames) (restored_instance m section snapshot) steps
 
 -- The run over the first script ends, the one that is resumed from its snapshot over the second ends too, and
 -- the outcome is that of a run that ends with both traces joined.
-pub record Resumes (m : Module) (section : Section) (saved : List Saved) (first second : Script) (steps : ℕ) (outcome : Outcome) : Type 0 where
+pub record Resumes (m : Module) (section : CmajorSection) (saved : List Saved) (first second : Script) (steps : ℕ) (outcome : Outcome) : Type 0 where
   pub instance : Instance
   pub stopped : host_stops m section saved first first.frames steps ≡ AtEnd instance
   pub resumed : (resumed_run m section (snapshot_of m section instance) second second.frames steps).ending ≡ Ended
@@ -132,7 +132,7 @@ pub record Resumes (m : Module) (section : Section) (saved : List Saved) (first 
       ≡ record { trace = joined_traces first.frames instance.trace (resumed_run m section (snapshot_of m section instance) second second.frames steps).trace; ending = Ended }
 
 -- what `run` does over both scripts joined, the module does when it is stopped between them and resumed
-pub record KeepsResumed (cost : ℕ) (run : ℕ → Outcome) (m : Module) (section : Section) (saved : List Saved) (first second : Script) : Type 0 where
+pub record KeepsResumed (cost : ℕ) (run : ℕ → Outcome) (m : Module) (section : CmajorSection) (saved : List Saved) (first second : Script) : Type 0 where
   -- a run of the source that ends is one that the module stops and resumes
   pub forward : (n : ℕ) → (run n).ending ≡ Ended → Resumes m section saved first second (cost * (n + 1)) (run n)
   -- where the module's run and the resumed one end, the source's ends with both traces joined
@@ -140,7 +140,7 @@ pub record KeepsResumed (cost : ℕ) (run : ℕ → Outcome) (m : Module) (secti
       (resumed_run m section (snapshot_of m section instance) second second.frames steps).ending ≡ Ended → Resumes m section saved first second steps (run steps)
 
 -- every two scripts for the endpoints, of any length, and saved parameters in their ranges
-abbrev pub KeepsStopped : {World : Type 0} → Source World → Module → Section → Type 0
+abbrev pub KeepsStopped : {World : Type 0} → Source World → Module → CmajorSection → Type 0
 KeepsStopped source m section =
     (saved : List Saved) (first second : Script) → AreSaved source.ends saved → IsScriptFor source.ends first → IsScriptFor source.ends second →
     KeepsResumed source.cost (source_run source saved (joined_scripts source.ends first second) (first.frames + second.frames)) m section saved first second

@@ -15,7 +15,7 @@ use Rattle.wasm_tree.specs.declared.instr.Instr.TheVariants as instr
 use Rattle.wasm_tree.specs.Reduce.{Seq, pieces, page_size}
 use Rattle.wasm_tree.specs.Control.{IsOpen, IsClosed}
 use Rattle.wasm_tree.specs.Spelled.{most_locals, count_of_locals}
-use Rattle.wasm_tree.specs.Section.{Section, IsSection, AreWithin}
+use Rattle.wasm_tree.specs.Section.{CmajorSection, IsSection, AreWithin}
 use Rattle.wasm_tree.specs.Typed.{Typed}
 use Rattle.wasm_tree.specs.Host.{HasImport, HasExports}
 pub use Rattle.wasm_tree.specs.Numbers.{no_type, emit_type, type_at, function_types, code_of, declared_locals, memories, IsThere, counts, HasImportedType, HasExported}
@@ -73,12 +73,12 @@ pub record HasMemory (own : List Limits) : Type 0 where
   pub lawful : IsMemory limits
 
 -- few locals are declared, and no sequence is open too deep, which closed code has none of
-pub record IsWithinLimits (body : FuncBody) : Type 0 where
+pub record IsBodyWithinLimits (body : FuncBody) : Type 0 where
   pub locals : count_of_locals body.locals ≤ most_locals
   pub nesting : IsClosed body.code
 
 abbrev pub AreBodiesWithinLimits : Module → Type 0
-AreBodiesWithinLimits m = AllByRecursion IsWithinLimits m.codes
+AreBodiesWithinLimits m = AllByRecursion IsBodyWithinLimits m.codes
 
 pub record Limit (m : Module) : Type 0 where
   pub memory : HasMemory m.memory
@@ -138,19 +138,19 @@ Segment m = AllByRecursion (λ segment. cast_unsigned w32 segment.offset + lengt
 
 -- ---- Interface: imports and exports (docs/MODULE.md, "Imports and exports")
 
-pub record Interface (m : Module) (section : Section) : Type 0 where
+pub record Interface (m : Module) (section : CmajorSection) : Type 0 where
   pub imports : HasImport m
   pub exports : HasExports m section
 
 -- ---- Cmajor: the section that tells a host of the endpoints (docs/MODULE.md, "The section" and "Slots")
 
-pub record Cmajor (m : Module) (section : Section) : Type 0 where
+pub record Cmajor (m : Module) (section : CmajorSection) : Type 0 where
   pub described : IsSection m section
   pub slots : AreWithin (memory_size m.memory) section
 
 -- ---- modules (3.4.10)
 
-pub record Valid (m : Module) (section : Section) : Type 0 where
+pub record Valid (m : Module) (section : CmajorSection) : Type 0 where
   pub index : Index m
   pub limit : Limit m
   pub typing : Typing m

@@ -2,7 +2,7 @@ ghost use Rattle.std.specs.Prelude.{◌≡◌, ℕ, List, [], ◌∷◌, map};
 ghost use Rattle.wasm_tree.specs.declared.failure.ModuleRefused.{ModuleRefused};
 ghost use Rattle.wasm_tree.specs.declared.failure.ModuleRule.{ModuleRule};
 ghost use Rattle.wasm_tree.specs.declared.module.Module.{Module as TheModule};
-ghost use Rattle.wasm_tree.specs.Section.{Section, IsSection};
+ghost use Rattle.wasm_tree.specs.Section.{CmajorSection, IsSection};
 ghost use Rattle.wasm_tree.specs.Host.{HasImport};
 ghost use Rattle.wasm_tree.specs.Numbers.{emit_type, type_at, function_types, function_codes, memories};
 ghost use Rattle.wasm_tree.specs.Valid.{Valid};
@@ -11,12 +11,12 @@ ghost use Rattle.wasm_tree.specs.Spelled.{Spelled};
 
 /// A law of the format: a module has one section `cmajor` at most.
 pub fn section_is_unique()
-    ensures { (m : TheModule) (s t : Section) → IsSection m s → IsSection m t → s ≡ t }
+    ensures { (m : TheModule) (s t : CmajorSection) → IsSection m s → IsSection m t → s ≡ t }
 {}
 
 /// A law of validity: a module that breaks a rule isn't valid, whatever its section `cmajor` says.
 pub fn broken_is_invalid()
-    ensures { (rule : ModuleRule) (m : TheModule) (section : Section) → Breaks rule m → Valid m section → ⊥ }
+    ensures { (rule : ModuleRule) (m : TheModule) (section : CmajorSection) → Breaks rule m → Valid m section → ⊥ }
 {}
 
 /// A law of validity: where the one import is `emit`, it is function 0, the module's own functions follow in the

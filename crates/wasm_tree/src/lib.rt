@@ -1,8 +1,10 @@
 //! Modules and instructions of WebAssembly 1.0 in the integer subset of docs/MODULE.md, as plain types, and
-//! in `specs/` the four definitions that the rest of the compiler rests on: which bytes spell a module
-//! (`Spelled`), when a module is valid (`Valid`), how instructions reduce (`Reduce`) and what a host's run
-//! of a module is (`HostRun`). The writer, the reader, the validator, the runner and the headline cite them.
-//! The functions of `laws` do nothing: their contracts state what follows from the definitions.
+//! in `specs/` the definitions that the rest of the compiler rests on: which bytes spell a module (`Spelled`,
+//! `Opcode`, `Control`), when a module is valid and how another one is refused (`Valid`, `Typed`, `Refusal`), how
+//! instructions reduce (`Reduce`, `Meaning`), what a host's run of a module is (`HostRun`, over `Instance`, `Slots`
+//! and `Calls`), and when a module keeps its source (`Keeps`, `Stopped`). The writer, the reader, the validator, the
+//! runner and the headline cite them. The functions of `laws` do nothing: their contracts state what follows from
+//! the definitions.
 #![tactic(auto)]
 
 mod control;

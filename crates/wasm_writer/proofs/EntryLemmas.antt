@@ -11,7 +11,8 @@ use Rattle.wasm_tree.specs.declared.module.FuncBody.{FuncBody}
 use Rattle.wasm_tree.specs.declared.module.Segment.{Segment}
 use Rattle.wasm_tree.specs.declared.module.Custom.{Custom}
 use Rattle.wasm_tree.specs.Spelled.{Joined, Is, Begins, Each, Index, Signed, Vector, Text, Utf8Text, Type_of_value, type_byte, Import_kind, Imported, Export_kind, Exported, mutable_byte, Instruction, IsConstant, Global, Data, Locals, LocalRuns, Expression, Body, Custom_contents}
-use Rattle.wasm_writer.specs.Spelling.{unsigned_bytes, signed_bytes, vector_bytes, text_bytes, import_kind_bytes, import_bytes, export_kind_bytes, export_bytes, instruction_bytes, global_bytes, locals_bytes, code_bytes, body_bytes, segment_bytes, custom_contents, IsFormed}
+use Rattle.wasm_tree.specs.Valid.{IsBodyWithinLimits}
+use Rattle.wasm_writer.specs.Spelling.{unsigned_bytes, signed_bytes, vector_bytes, text_bytes, import_kind_bytes, import_bytes, export_kind_bytes, export_bytes, instruction_bytes, global_bytes, locals_bytes, code_bytes, body_bytes, segment_bytes, custom_contents}
 use Rattle.wasm_writer.proofs.Nonempty.{locals_nonempty}
 use Rattle.wasm_writer.proofs.Parts.{joined, begins, text_spelled, vector_count}
 
@@ -59,9 +60,9 @@ global_sizes global h = omega (arith, length-append (instruction_bytes global.va
 pub locals_spelled : (run : LocalRun) → Index run.count (unsigned_bytes run.count) → Locals run (locals_bytes run)
 locals_spelled run h = joined (Index run.count) (Type_of_value run.ty) (unsigned_bytes run.count) (type_byte run.ty ∷ []) h refl
 
-pub body_spelled : (body : FuncBody) → IsFormed body → length (code_bytes body) < 2 ^ 32 → Vector Locals body.locals (vector_bytes locals_bytes body.locals) → Each Instruction body.code (flat_map instruction_bytes body.code) → Body body (body_bytes body)
+pub body_spelled : (body : FuncBody) → IsBodyWithinLimits body → length (code_bytes body) < 2 ^ 32 → Vector Locals body.locals (vector_bytes locals_bytes body.locals) → Each Instruction body.code (flat_map instruction_bytes body.code) → Body body (body_bytes body)
 body_spelled body formed sized locals code =
-    (code_bytes body, text_spelled (code_bytes body) sized, joined (LocalRuns body.locals) (Expression body.code) (vector_bytes locals_bytes body.locals) (flat_map instruction_bytes body.code) (record { spelled = locals; few = formed.few }) (record { spelled = code; closed = formed.closed }))
+    (code_bytes body, text_spelled (code_bytes body) sized, joined (LocalRuns body.locals) (Expression body.code) (vector_bytes locals_bytes body.locals) (flat_map instruction_bytes body.code) (record { spelled = locals; few = formed.locals }) (record { spelled = code; closed = formed.nesting }))
 
 pub record BodySizes (body : FuncBody) : Type 0 where
   pub whole : length (code_bytes body) < 2 ^ 32

@@ -9,7 +9,8 @@ use Rattle.std.proofs.lemmas.List.Concat.{flat_map-append}
 use Rattle.wasm_tree.specs.declared.module.Custom.{Custom}
 use Rattle.wasm_tree.specs.declared.module.Module.{Module}
 use Rattle.wasm_tree.specs.Spelled.{Each, Index, Vector, Raw, RawSection, contents_of, Custom_contents, CustomsAre, sorted_customs, header, Type_of_function, Imported, Memory, Global, IsConstant, Exported, Body, Data, Spelled}
-use Rattle.wasm_writer.specs.Spelling.{unsigned_bytes, vector_bytes, function_type_bytes, import_bytes, memory_bytes, global_bytes, export_bytes, body_bytes, segment_bytes, custom_contents, custom_bytes, spelling, IsFormed, IsWritable}
+use Rattle.wasm_tree.specs.Valid.{IsBodyWithinLimits}
+use Rattle.wasm_writer.specs.Spelling.{unsigned_bytes, vector_bytes, function_type_bytes, import_bytes, memory_bytes, global_bytes, export_bytes, body_bytes, segment_bytes, custom_contents, custom_bytes, spelling, IsWritable}
 use Rattle.wasm_writer.proofs.CustomLemmas.{named}
 use Rattle.wasm_writer.proofs.Numbers.{unsigned_end}
 use Rattle.wasm_writer.proofs.SectionLemmas.{listed, OptionalSection, raw_bytes, bytes_of, IsRising}
@@ -257,7 +258,7 @@ spelled_writable bytes m s lt =
       };
       customs = All-from_recursion (λ custom. length (custom_contents custom) < 2 ^ 32) m.customs (customs_small m.customs (omega (arith, small)));
       constant = All-from_recursion (λ global. IsConstant global.value) m.globals (lists_all Global (λ global. IsConstant global.value) (λ x bytes h. h.constant) (contents_of 6 s.raws) m.globals s.globals);
-      formed = All-from_recursion IsFormed m.codes (lists_all Body IsFormed (λ x bytes h. record { few = h.2.first.few; closed = h.2.second.closed }) (contents_of 10 s.raws) m.codes s.codes);
+      formed = All-from_recursion IsBodyWithinLimits m.codes (lists_all Body IsBodyWithinLimits (λ x bytes h. record { locals = h.2.first.few; nesting = h.2.second.closed }) (contents_of 10 s.raws) m.codes s.codes);
       sorted = rw s.sorted (sorted_again s.found);
       bodies = s.bodies;
     }

@@ -11,7 +11,7 @@ use Rattle.std.proofs.lemmas.Bool.{cases_Bool}
 use Rattle.cm_base.specs.declared.host.Scalar.{Scalar}
 use Rattle.cm_base.specs.declared.host.Scalar.TheVariants.{Int32, Int64, Bool as Truth, Wrap, Clamp}
 use Rattle.wasm_tree.specs.Spelled.{Index, Each}
-use Rattle.wasm_tree.specs.Section.{Run, Runs, Spelled_run}
+use Rattle.wasm_tree.specs.Section.{KindRun, Runs, Spelled_run}
 use Rattle.wasm_writer.specs.declared.description.ScalarRun.{ScalarRun}
 use Rattle.wasm_writer.specs.Spelling.{unsigned_bytes}
 use Rattle.wasm_writer.specs.Description.{is_same_kind, with_scalar, runs_of, run_bytes, Spelled_scalar_run, shape_bytes}
@@ -142,7 +142,7 @@ have_some [] = tt
 have_some (kind ∷ shape) = with_some kind (runs_of shape) (have_some shape)
 
 -- the runs as the section lists them
-listed : (runs : List ScalarRun) → HaveSome runs → List Run
+listed : (runs : List ScalarRun) → HaveSome runs → List KindRun
 listed [] h = []
 listed (run ∷ runs) h = record { count = run.count; kind = run.kind; some = h.0 } ∷ listed runs h.1
 
@@ -165,7 +165,7 @@ listed_spelled (run ∷ runs) h bytes each = record {
 scalars_of : List ScalarRun → List Scalar
 scalars_of runs = flat_map (λ run. replicate run.count run.kind) runs
 
-listed_scalars : (runs : List ScalarRun) (h : HaveSome runs) → flat_map (λ (run : Run). replicate run.count run.kind) (listed runs h) ≡ scalars_of runs
+listed_scalars : (runs : List ScalarRun) (h : HaveSome runs) → flat_map (λ (run : KindRun). replicate run.count run.kind) (listed runs h) ≡ scalars_of runs
 unfolding listed scalars_of
 listed_scalars [] h = refl
 listed_scalars (run ∷ runs) h = ap (λ (rest : List Scalar). replicate run.count run.kind ++ rest) (listed_scalars runs h.1)

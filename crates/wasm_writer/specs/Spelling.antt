@@ -22,8 +22,8 @@ use Rattle.wasm_tree.specs.declared.instr.LabelTable.{LabelTable}
 use Rattle.wasm_tree.specs.declared.instr.Instr.{Instr}
 use Rattle.wasm_tree.specs.declared.instr.Instr.TheVariants as instr
 use Rattle.wasm_tree.specs.Opcode.{opcode_of}
-use Rattle.wasm_tree.specs.Control.{IsClosed}
-use Rattle.wasm_tree.specs.Spelled.{type_byte, result_byte, mutable_byte, header, IsConstant, count_of_locals, most_locals, sorted_customs}
+use Rattle.wasm_tree.specs.Spelled.{type_byte, result_byte, mutable_byte, header, IsConstant, sorted_customs}
+use Rattle.wasm_tree.specs.Valid.{IsBodyWithinLimits}
 
 -- ---- values (5.2)
 
@@ -182,16 +182,11 @@ pub record ListsFit (m : Module) : Type 0 where
   pub codes : length (vector_bytes body_bytes m.codes) < 2 ^ 32
   pub segments : length (vector_bytes segment_bytes m.segments) < 2 ^ 32
 
--- a body declares few enough locals, and its code ends each sequence that it opens
-pub record IsFormed (body : FuncBody) : Type 0 where
-  pub few : count_of_locals body.locals ≤ most_locals
-  pub closed : IsClosed body.code
-
 -- what has a spelling: each section's size is a number of 32 bits, and what the format asks of the parts holds
 pub record IsWritable (m : Module) : Type 0 where
   pub lists : ListsFit m
   pub customs : All (λ custom. length (custom_contents custom) < 2 ^ 32) m.customs
   pub constant : All (λ global. IsConstant global.value) m.globals
-  pub formed : All IsFormed m.codes
+  pub formed : All IsBodyWithinLimits m.codes
   pub sorted : m.customs ≡ sorted_customs m.customs
   pub bodies : length m.functions ≡ length m.codes

@@ -190,13 +190,14 @@ fn size_of_code(body: &FuncBody) -> u64
 
 impl Encode for FuncBody {
     ghost use Rattle.wasm_tree.specs.Spelled.{Body};
-    ghost use Rattle.wasm_writer.specs.Spelling.{body_bytes, IsFormed};
+    ghost use Rattle.wasm_tree.specs.Valid.{IsBodyWithinLimits};
+    ghost use Rattle.wasm_writer.specs.Spelling.{body_bytes};
 
     ghost shortest = { body_bytes };
 
     ghost spells = { Body };
 
-    ghost well_formed = { IsFormed };
+    ghost well_formed = { IsBodyWithinLimits };
 
     #[tactic(auto, using(crate::proofs::EntryLemmas::body_spelled, crate::proofs::EntryLemmas::body_sizes))]
     fn encode(&self, out: &mut Vec<u8>) -> Result<(), NoMemory> {

@@ -1,7 +1,8 @@
 ghost use Rattle.std.specs.Prelude.{◌≡◌, ◌<◌, ◌≤◌, ◌^◌, ◌↔◌, length, All, IsTrue};
 ghost use Rattle.wasm_tree.specs.Control.{IsClosed};
 ghost use Rattle.wasm_tree.specs.Spelled.{IsConstant, count_of_locals, most_locals, sorted_customs};
-ghost use Rattle.wasm_writer.specs.Spelling.{vector_bytes, custom_contents, ListsFit, IsFormed, IsWritable};
+ghost use Rattle.wasm_tree.specs.Valid.{IsBodyWithinLimits};
+ghost use Rattle.wasm_writer.specs.Spelling.{vector_bytes, custom_contents, ListsFit, IsWritable};
 
 use crate::encode::{Encode, size_of_vector};
 use crate::section_sizes::size_of_custom;
@@ -85,7 +86,7 @@ fn is_closed(stack: &mut ControlStack, code: &[Instr]) -> bool
 }
 
 fn are_formed(bodies: &[FuncBody]) -> bool
-    ensures { IsTrue result ↔ All IsFormed bodies.now }
+    ensures { IsTrue result ↔ All IsBodyWithinLimits bodies.now }
 {
     let mut stack = ControlStack::new();
     for body in bodies {

@@ -8,7 +8,8 @@ use Rattle.std.specs.List.{list_any}
 use Rattle.cm_base.specs.declared.cause.Cause.{Cause}
 use Rattle.cm_base.specs.declared.failure.Fail.{Fail}
 use Rattle.cm_base.specs.declared.failure.Fail.TheVariants.{NoMemory}
-use Rattle.patch_manifest.specs.Manifest.{value_of, IsSomeText, IsObject, IsVersion, id_of, sources_of, has_texts, is_wrong_path, IsManifest, HasFault, Syntax, Object, Version, Id, Source, Text, Path, IsAnswer, refusal_of}
+use Rattle.json_value.specs.Value.{value_of, IsSomeText}
+use Rattle.patch_manifest.specs.Manifest.{IsObject, IsVersion, id_of, sources_of, has_texts, is_wrong_path, IsManifest, HasFault, Syntax, Object, Version, Id, Source, Text, Path, IsAnswer, refusal_of}
 
 -- a refusal for a fault is an answer
 pub refusal : (bytes : List ℕ) (cause : Cause) (fail : Fail) → fail ≡ refusal_of cause → HasFault bytes cause → IsAnswer bytes fail
@@ -18,11 +19,6 @@ refusal bytes cause fail is fault = rw is (record { fault = fault; place = refl;
 pub memory_answer : {T : Type 0} (bytes : List ℕ) (answer : Result T Fail) → IsErrAnd answer (λ fail. fail ≡ NoMemory) → IfErr answer (IsAnswer bytes)
 memory_answer bytes (Ok found) is = tt
 memory_answer bytes (Err fail) is = rw is tt
-
--- memory is wanted for a text only
-pub text_answer : {T : Type 0} (bytes : List ℕ) (answer : Result T Fail) → IsSomeText bytes → IfErr answer (λ fail. fail ≡ NoMemory → IsSomeText bytes)
-text_answer bytes (Ok found) text = tt
-text_answer bytes (Err fail) text = λ is. text
 
 -- what was read is the value of the bytes
 pub value_is : (bytes : List ℕ) (found : Option Value) (value : Value) → option_map view found ≡ value_of bytes → found ≡ Some value → value_of bytes ≡ Some (view value)

@@ -2,4 +2,3 @@ pub mod Faults
 pub mod Folders
 pub mod Rows
 pub mod Texts
-pub mod Values

@@ -5,7 +5,8 @@ use Rattle.std.specs.Str.{is_utf8, chars}
 use Rattle.serde_json.specs.Data.{number, unsigned}
 use Rattle.serde_json.specs.Find.{get}
 use Rattle.serde_json.proofs.OnLiterals.{serde_json_on_literals}
-use Rattle.patch_manifest.specs.Manifest.{value_of, id_of, sources_of, has_texts, is_wrong_path}
+use Rattle.json_value.specs.Value.{value_of}
+use Rattle.patch_manifest.specs.Manifest.{id_of, sources_of, has_texts, is_wrong_path}
 use Rattle.patch_manifest.specs.SourceName.{folder_of, file_name}
 
 one : option_and_then (get (codes "CmajorVersion")) (value_of (codes "{\"CmajorVersion\":1}")) ≡ Some (number (unsigned 1))
@@ -28,14 +29,6 @@ no_sources = refl
 no_text : option_map has_texts (value_of (codes "{\"name\":1}")) ≡ Some false
 unfolding value_of is_utf8 chars serde_json_on_literals
 no_text = refl
-
-cut_short : value_of (codes "{\"CmajorVersion\":1,") ≡ None
-unfolding value_of is_utf8 chars serde_json_on_literals
-cut_short = refl
-
-not_utf8 : value_of (34 ∷ 255 ∷ 34 ∷ []) ≡ None
-unfolding value_of is_utf8 chars encode
-not_utf8 = refl
 
 rooted : is_wrong_path (codes "/a") ≡ true
 rooted = refl

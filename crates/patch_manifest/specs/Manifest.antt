@@ -1,9 +1,7 @@
 -- The manifest of a patch: the JSON that it is, the form of each property, and its faults.
 use Rattle.std.specs.Prelude.{◌≡◌, ℕ, ◌<◌, ◌==◌, List, [], ◌∷◌, length, codes, Bool, true, false, ◌&&◌, ◌||◌, nat_le, if◌then◌else◌, Option, Some, None, is_some, option_map, option_and_then}
 use Rattle.std.specs.List.{list_any}
-use Rattle.std.specs.Str.{IsUtf8, is_utf8}
 use Rattle.serde_json.specs.Data.{Data, null, boolean, number, unsigned, string, array, object, Items, no_items, item}
-use Rattle.serde_json.specs.Read.{read}
 use Rattle.serde_json.specs.Find.{get, as_str, as_object}
 use Rattle.serde_json.specs.Events.{items_len}
 use Rattle.cm_base.specs.declared.cause.Cause.{Cause}
@@ -11,14 +9,7 @@ use Rattle.cm_base.specs.declared.cause.Cause.TheVariants.{ManifestSyntax, Manif
 use Rattle.cm_base.specs.declared.failure.Fail.{Fail}
 use Rattle.cm_base.specs.declared.failure.Fail.TheVariants as fails
 use Rattle.cm_base.specs.declared.failure.Refused.{Refused}
-
--- the value that bytes stand for: they are UTF-8, and the text is JSON
-unfoldable pub value_of : List ℕ → Option Data
-value_of bytes = if is_utf8 bytes then read bytes else None
-
--- a text that isn't empty: for other bytes want of memory is no answer
-abbrev pub IsSomeText : List ℕ → Type 0
-IsSomeText bytes = IsUtf8 bytes × (0 < length bytes)
+use Rattle.json_value.specs.Value.{value_of}
 
 -- the bytes stand for this value, and it is an object
 pub record IsObject (bytes : List ℕ) (value : Data) : Type 0 where

@@ -1,9 +1,11 @@
 ghost use Rattle.std.specs.Prelude.{◌≡◌, IfOk, IfErr};
 ghost use Rattle.cm_base.specs.declared.cause.Cause.{Cause};
-ghost use Rattle.patch_manifest.specs.Manifest.{IsManifest, HasFault, IsAnswer, IsSomeText, refusal_of};
+ghost use Rattle.json_value.specs.Value.{IsSomeText};
+ghost use Rattle.patch_manifest.specs.Manifest.{IsManifest, HasFault, IsAnswer, refusal_of};
 
-use crate::properties::{has_texts, has_wrong_path, id_of, is_version, sources_of, value_of};
+use crate::properties::{has_texts, has_wrong_path, id_of, is_version, sources_of};
 use cm_base::{Cause, Fail, Name, Names, Place, Refused};
+use json_value::value_of;
 use std::alloc::Global;
 
 /// What a patch's manifest says: the patch's identifier, and the paths of its source files in their order,

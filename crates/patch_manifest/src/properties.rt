@@ -1,8 +1,7 @@
 ghost use Rattle.std.specs.Prelude.{◌≡◌, ◌↔◌, IsTrue, IfOk, IfErr, ◌<◌, length, option_map};
 ghost use Rattle.std.specs.List.{list_any};
-ghost use Rattle.serde_json.specs.Read.{read};
 ghost use Rattle.serde_json.specs.View.{view, items_view};
-ghost use Rattle.patch_manifest.specs.Manifest.{value_of, IsSomeText, IsVersion, id_of, texts_of, few_texts_of, paths_of, sources_of, is_text, has_texts, is_wrong_path};
+ghost use Rattle.patch_manifest.specs.Manifest.{IsVersion, id_of, texts_of, few_texts_of, paths_of, sources_of, is_text, has_texts, is_wrong_path};
 
 use cm_base::limits::SOURCES;
 use cm_base::{Name, Names, NoMemory};
@@ -10,31 +9,6 @@ use serde_json::Value;
 use std::alloc::Global;
 
 const MOST_SOURCES: usize = SOURCES as usize;
-
-/// The JSON value that a file's bytes stand for. There is none where they are not UTF-8.
-pub(crate) fn value_of(alloc: Global, bytes: &[u8]) -> Result<Option<Value>, NoMemory>
-    ensures value { IfOk result (λ value. option_map view value ≡ value_of bytes.now) }
-    ensures memory { IfErr result (λ _. IsSomeText bytes.now) }
-{
-    match str::from_utf8(bytes) {
-        Ok(text) => value_of_text(alloc, text),
-        Err(_) => Ok(None),
-    }
-}
-
-fn value_of_text(alloc: Global, text: &str) -> Result<Option<Value>, NoMemory>
-    ensures value { IfOk result (λ value. option_map view value ≡ read text.now) }
-    ensures memory { IfErr result (λ _. 0 < length text.now) }
-{
-    match Value::from_str(alloc, text) {
-        Ok(value) => Ok(Some(value)),
-        Err(error) => if error.is_memory() {
-            Err(NoMemory)
-        } else {
-            Ok(None)
-        },
-    }
-}
 
 pub(crate) fn is_version(manifest: &Value) -> bool
     ensures { IsTrue result ↔ IsVersion (view manifest.now) }

@@ -2,8 +2,7 @@ use Rattle.std.proofs.Common.{option_map, ap, sym, ◌∙◌, true≢false}
 use Rattle.serde_json.specs.View.{view}
 use Rattle.cm_base.specs.declared.cause.Cause.TheVariants.{ManifestSyntax, ManifestObject, ManifestVersion, ManifestId, ManifestSource, ManifestText, ManifestPath}
 use Rattle.patch_manifest.specs.Manifest.{Syntax, Object, Version, Id, Source, Text, Path}
-use Rattle.patch_manifest.proofs.Faults.{refusal, memory_answer, text_answer, value_is, object_is}
-use Rattle.patch_manifest.proofs.Values.{IsSomeText-value_of}
+use Rattle.patch_manifest.proofs.Faults.{refusal, memory_answer, value_is, object_is}
 use Rattle.patch_manifest.proofs.manifest.read_manifest.Goals as goal
 
 pub returns-in_err-value-clause-refused : goal.returns-in_err-value-clause-refused
@@ -41,11 +40,6 @@ returns-in_default-id_of-clause-refused c =
 pub returns-in_err-sources-clause-refused : goal.returns-in_err-sources-clause-refused
 returns-in_err-sources-clause-refused c = memory_answer c.args.bytes.now c.from_residual-in_err-sources.result c.from_residual-in_err-sources.ensures.1
 
-pub returns-in_err-sources-clause-memory : goal.returns-in_err-sources-clause-memory
-returns-in_err-sources-clause-memory c =
-    let is = value_is c.args.bytes.now c.in_ok-value.field-0 c.in-Some.value c.in_ok-value.ensures.value c.in-Some.is in
-    text_answer c.args.bytes.now c.from_residual-in_err-sources.result (IsSomeText-value_of c.args.bytes.now (view c.in-Some.value) is)
-
 pub returns-in_default-2-clause-refused : goal.returns-in_default-2-clause-refused
 returns-in_default-2-clause-refused c =
     let object = object_is c.args.bytes.now c.in_ok-value.field-0 c.in-Some.value c.is_object.result c.in_ok-value.ensures.value c.in-Some.is c.is_object.ensures c.if-not-is_object.false in
@@ -60,8 +54,3 @@ returns-then-has_wrong_path-clause-refused c =
 
 pub returns-in_err-from_str-clause-refused : goal.returns-in_err-from_str-clause-refused
 returns-in_err-from_str-clause-refused c = memory_answer c.args.bytes.now c.from_residual-in_err-from_str.result c.from_residual-in_err-from_str.ensures.1
-
-pub returns-in_err-from_str-clause-memory : goal.returns-in_err-from_str-clause-memory
-returns-in_err-from_str-clause-memory c =
-    let is = value_is c.args.bytes.now c.in_ok-value.field-0 c.in-Some.value c.in_ok-value.ensures.value c.in-Some.is in
-    text_answer c.args.bytes.now c.from_residual-in_err-from_str.result (IsSomeText-value_of c.args.bytes.now (view c.in-Some.value) is)

@@ -1,12 +1,15 @@
 -- The value of bytes that are UTF-8, and of others.
 use lib.Utf8.{encode}
-use Rattle.std.proofs.Common.{◌≡◌, ℕ, ◌<◌, List, [], ◌∷◌, length, Bool, true, false, Option, Some, None, if◌then◌else◌, refl, sym, ◌∙◌, arith}
+use Rattle.std.proofs.Common.{◌≡◌, ℕ, ◌<◌, List, [], ◌∷◌, length, Bool, true, false, Option, Some, None, option_map, Result, Ok, Err, IfOk, IfSome, if◌then◌else◌, refl, sym, ◌∙◌, arith}
 use Rattle.std.proofs.lemmas.Str.{is_utf8-from_IsUtf8, IsUtf8-from_is_utf8}
 use Rattle.std.specs.Str.{IsUtf8, is_utf8, chars}
 use Rattle.serde_json.specs.Data.{Data}
 use Rattle.serde_json.specs.Read.{read}
+use Rattle.serde_json.specs.View.{view}
+use Rattle.serde_json.specs.declared.value.Value.{Value}
 use Rattle.serde_json.proofs.OnLiterals.{serde_json_on_literals}
-use Rattle.patch_manifest.specs.Manifest.{value_of, IsSomeText}
+use Rattle.cm_base.specs.declared.failure.NoMemory.{NoMemory}
+use Rattle.json_value.specs.Value.{value_of, IsSomeText}
 
 pub value_of-text : (bytes : List ℕ) → IsUtf8 bytes → value_of bytes ≡ read bytes
 unfolding value_of
@@ -36,3 +39,9 @@ some (byte ∷ bytes) value is = omega arith
 pub IsSomeText-value_of : (bytes : List ℕ) (value : Data) → value_of bytes ≡ Some value → IsSomeText bytes
 unfolding value_of
 IsSomeText-value_of bytes value is = (IsUtf8-from_is_utf8 bytes (within (is_utf8 bytes) (read bytes) value is), some bytes value is)
+
+-- so where a value was found
+pub text_found : (bytes : List ℕ) (answer : Result (Option Value) NoMemory) → IfOk answer (λ found. option_map view found ≡ value_of bytes) → IfOk answer (λ found. IfSome found (λ _. IsSomeText bytes))
+text_found bytes (Ok None) is = tt
+text_found bytes (Ok (Some value)) is = IsSomeText-value_of bytes (view value) (sym is)
+text_found bytes (Err fail) is = tt

@@ -1,33 +1,38 @@
 -- How reading ends: with a value of which one thing holds, or with a fault of which another does.
-use Rattle.std.proofs.Common.{◌≡◌, Bool, true, false, cond, Result, Ok, Err, refl, subst}
+use Rattle.std.proofs.Common.{◌≡◌, Bool, true, false, cond, Option, Some, None, Result, Ok, Err, refl, subst}
 use Rattle.wasm_reader.specs.declared.fault.Fault.{Fault}
-use Rattle.wasm_reader.specs.Reading.{◌>>=◌}
+use Rattle.wasm_reader.specs.Reading.{◌>>=◌, or_fault}
 
-abbrev pub Ends : {A : Type 0} → (A → Type 0) → (Fault → Type 0) → Result A Fault → Type 0
-Ends G N (Ok x) = G x
-Ends G N (Err e) = N e
+pub ok_is : {A : Type 0} (x y : A) → (let r : Result A Fault = Ok x in r) ≡ Ok y → x ≡ y
+ok_is x y e = cc
+
+pub err_is : {A : Type 0} (d e : Fault) → (let r : Result A Fault = Err d in r) ≡ Err e → d ≡ e
+err_is d e h = cc
+
+pub record Ends {A : Type 0} (G : A → Type 0) (N : Fault → Type 0) (r : Result A Fault) : Type 0 where
+  pub ok : (x : A) → r ≡ Ok x → G x
+  pub err : (e : Fault) → r ≡ Err e → N e
+
+pub with_value : {A : Type 0} {G : A → Type 0} {N : Fault → Type 0} (x : A) → G x → Ends G N (Ok x)
+with_value {G = G} x h = record { ok = λ y e. subst G (ok_is x y e) h; err = λ d e. absurd cc }
+
+pub with_fault : {A : Type 0} {G : A → Type 0} {N : Fault → Type 0} (x : Fault) → N x → Ends G N (Err x)
+with_fault {N = N} x h = record { ok = λ y e. absurd cc; err = λ d e. subst N (err_is x d e) h }
 
 -- a step, and what follows it
-pub step : {A B : Type 0} (G : A → Type 0) (N : Fault → Type 0) (H : B → Type 0) (M : Fault → Type 0) (r : Result A Fault) (f : A → Result B Fault) → Ends G N r → ((e : Fault) → N e → M e) → ((x : A) → G x → Ends H M (f x)) → Ends H M (r >>= f)
-step G N H M (Ok x) f h bad good = good x h
-step G N H M (Err e) f h bad good = bad e h
+pub step : {A B : Type 0} {G : A → Type 0} {N : Fault → Type 0} {H : B → Type 0} {M : Fault → Type 0} (r : Result A Fault) {f : A → Result B Fault} → Ends G N r → ((e : Fault) → N e → M e) → ((x : A) → G x → Ends H M (f x)) → Ends H M (r >>= f)
+step (Ok x) h bad good = good x (h.ok x refl)
+step (Err e) h bad good = with_fault e (bad e (h.err e refl))
 
-pub weaker : {A : Type 0} (G H : A → Type 0) (N M : Fault → Type 0) (r : Result A Fault) → Ends G N r → ((x : A) → G x → H x) → ((e : Fault) → N e → M e) → Ends H M r
-weaker G H N M (Ok x) h good bad = good x h
-weaker G H N M (Err e) h good bad = bad e h
-
--- by what is known of each end
-pub by_ends : {A : Type 0} (G : A → Type 0) (N : Fault → Type 0) (r : Result A Fault) → ((x : A) → r ≡ Ok x → G x) → ((e : Fault) → r ≡ Err e → N e) → Ends G N r
-by_ends G N (Ok x) good bad = good x refl
-by_ends G N (Err e) good bad = bad e refl
+pub weaker : {A : Type 0} {G H : A → Type 0} {N M : Fault → Type 0} {r : Result A Fault} → Ends G N r → ((x : A) → G x → H x) → ((e : Fault) → N e → M e) → Ends H M r
+weaker h good bad = record { ok = λ x e. good x (h.ok x e); err = λ x e. bad x (h.err x e) }
 
 -- by both ways that a test may go
-pub by_test : {A : Type 0} (G : A → Type 0) (N : Fault → Type 0) (b : Bool) (r s : Result A Fault) → (b ≡ true → Ends G N r) → (b ≡ false → Ends G N s) → Ends G N (cond b r s)
-by_test G N true r s good bad = good refl
-by_test G N false r s good bad = bad refl
+pub by_test : {A : Type 0} {G : A → Type 0} {N : Fault → Type 0} (b : Bool) {r s : Result A Fault} → (b ≡ true → Ends G N r) → (b ≡ false → Ends G N s) → Ends G N (cond b r s)
+by_test true good bad = good refl
+by_test false good bad = bad refl
 
-pub ends_ok : {A : Type 0} (G : A → Type 0) (N : Fault → Type 0) (r : Result A Fault) (x : A) → Ends G N r → r ≡ Ok x → G x
-ends_ok G N r x h e = subst (Ends G N) e h
-
-pub ends_err : {A : Type 0} (G : A → Type 0) (N : Fault → Type 0) (r : Result A Fault) (e : Fault) → Ends G N r → r ≡ Err e → N e
-ends_err G N r e h is = subst (Ends G N) is h
+-- by whether there is a value
+pub by_value : {A : Type 0} {G : A → Type 0} {N : Fault → Type 0} (x : Fault) (o : Option A) → ((y : A) → o ≡ Some y → G y) → (o ≡ None → N x) → Ends G N (or_fault x o)
+by_value x None some none = with_fault x (none refl)
+by_value x (Some y) some none = with_value y (some y refl)

@@ -1,25 +1,24 @@
 -- What is read is the module that the bytes spell, where none is read a rule fails, and what is spelled is read.
-use Rattle.std.proofs.Common.{◌≡◌, ℕ, suc, ◌-◌, ◌≤◌, ◌<◌, Bool, true, false, cond, eqb, eq-eqb, List, [], ◌∷◌, ◌++◌, length, Result, Ok, Err, refl, sym, ap, subst, ◌∙◌, arith, inl, inr}
+use Rattle.std.proofs.Common.{◌≡◌, ℕ, suc, ◌-◌, ◌≤◌, ◌<◌, cond, eqb, eq-eqb, List, [], ◌∷◌, ◌++◌, length, Result, Ok, Err, refl, sym, ap, subst, ◌∙◌, arith, inl, inr}
 use Rattle.std.proofs.lemmas.Bool.{eqb-true, eqb-false}
 use Rattle.std.proofs.lemmas.List.{append-nil, nil_from_length, length-append}
-use Rattle.wasm_tree.specs.declared.failure.ModuleRule.{ModuleRule}
 use Rattle.wasm_tree.specs.declared.failure.ModuleRule.TheVariants as rule
 use Rattle.wasm_tree.specs.declared.module.Custom.{Custom}
 use Rattle.wasm_tree.specs.declared.module.Module.{Module}
-use Rattle.wasm_tree.specs.Spelled.{Joined, Is, Each, Index, Type_of_function, Imported, Memory, Global, Exported, Body, Data, Raw, RawSection, InOrder, contents_of, Lists, CustomsAre, header, Spelled}
+use Rattle.wasm_tree.specs.Spelled.{Joined, Is, Each, Index, Type_of_function, Imported, Memory, Global, Exported, Body, Data, Raw, RawSection, contents_of, Lists, CustomsAre, header, Spelled}
 use Rattle.wasm_reader.specs.declared.fault.Fault.{Fault}
 use Rattle.wasm_reader.specs.declared.section.Found.{Found}
 use Rattle.wasm_reader.specs.Fault.{NoFunctionType, NoImport, NoIndex, NoMemory, NoGlobal, NoExport, NoBody, NoData, NoModule, Differs, FailsAt}
-use Rattle.wasm_reader.specs.Reading.{LastParts, FirstParts, ◌>>=◌, at, Reader, index_at, function_type_at, import_at, memory_at, global_at, export_at, filled_at, body_at, segment_at, customs_at, section_at, header_byte_at, header_at, head_at, tail_at, whole_of, module_at}
-use Rattle.wasm_reader.proofs.Steps.{ok_is}
+use Rattle.wasm_reader.specs.Reading.{LastParts, FirstParts, at, index_at, function_type_at, import_at, memory_at, global_at, export_at, filled_at, body_at, segment_at, customs_at, header_byte_at, header_at, head_at, tail_at, whole_of, module_at}
 use Rattle.wasm_reader.proofs.Choices.{memory-reads}
-use Rattle.wasm_reader.proofs.CodeFaults.{body-spells, body-breaks}
-use Rattle.wasm_reader.proofs.Fields.{index-reads}
+use Rattle.wasm_reader.proofs.Control.{body-reads}
+use Rattle.wasm_reader.proofs.NumberLaws.{index-reads}
 use Rattle.wasm_reader.proofs.Records.{function_type-reads, import-reads, export-reads, global-reads, segment-reads}
-use Rattle.wasm_reader.proofs.Ends.{Ends, step, weaker, by_test, ends_ok, ends_err}
+use Rattle.wasm_reader.proofs.Ends.{Ends, ok_is, with_value, with_fault, step, weaker, by_test}
+use Rattle.wasm_reader.proofs.Readers.{Broken}
 use Rattle.wasm_reader.proofs.Sections.{total, begin, unfiltered, lists-along}
-use Rattle.wasm_reader.proofs.SectionLaws.{Skipped, Upto, Stopped, Past, Stage, Done, nothing, past, customs-end, section-ends, skip-stopped, misplaced}
-use Rattle.wasm_reader.proofs.SectionAgain.{customs-again, section-again, nothing_left}
+use Rattle.wasm_reader.proofs.SectionLaws.{Skipped, Upto, Stopped, Past, Stage, Done, nothing, past, customs-ends, section-ends, skip-stopped, misplaced}
+use Rattle.wasm_reader.proofs.SectionAgain.{Ahead, customs-again, onward, nothing_left}
 
 -- ---- the header
 
@@ -28,17 +27,15 @@ abbrev Off : List ℕ → List ℕ → Fault → Type 0
 Off dues bytes x = (front : List ℕ) × (back : List ℕ) × (more : List ℕ) × (bytes ≡ front ++ back) × (dues ≡ front ++ more) × (x ≡ at rule.Header (length back)) × Differs back more
 
 -- the header is there, or a byte differs
-header-end : (dues bytes : List ℕ) → Ends (λ rest. bytes ≡ dues ++ rest) (Off dues bytes) (header_at dues bytes)
+header-ends : (dues bytes : List ℕ) → Ends (λ rest. bytes ≡ dues ++ rest) (Off dues bytes) (header_at dues bytes)
 unfolding header_at header_byte_at
-header-end [] bytes = refl
-header-end (due ∷ dues) [] = ([], [], due ∷ dues, refl, refl, refl, tt)
-header-end (due ∷ dues) (b ∷ bytes) = by (eqb b due) refl (header-end dues bytes) where
-  by : (t : Bool) → eqb b due ≡ t → Ends (λ rest. bytes ≡ dues ++ rest) (Off dues bytes) (header_at dues bytes)
-      → Ends (λ rest. b ∷ bytes ≡ due ∷ (dues ++ rest)) (Off (due ∷ dues) (b ∷ bytes)) (cond t (Ok bytes) (Err (at rule.Header (suc (length bytes)))) >>= λ rest. header_at dues rest)
-  by true e so =
-      weaker _ _ _ _ (header_at dues bytes) so (λ rest w. cc (eqb-true b due e, w))
-      (λ x o. (b ∷ o.0, o.1, o.2, ap (λ (l : List ℕ). b ∷ l) o.3, ap (λ (l : List ℕ). due ∷ l) o.4 ∙ ap (λ (z : ℕ). z ∷ (o.0 ++ o.2)) (sym (eqb-true b due e)), o.5, o.6))
-  by false e so = ([], b ∷ bytes, due ∷ dues, refl, refl, refl, eqb-false b due e)
+header-ends [] bytes = with_value bytes refl
+header-ends (due ∷ dues) [] = with_fault (at rule.Header 0) ([], [], due ∷ dues, refl, refl, refl, tt)
+header-ends (due ∷ dues) (b ∷ bytes) =
+    step _ (by_test {G = λ rest. b ∷ bytes ≡ due ∷ rest} {N = Off (due ∷ dues) (b ∷ bytes)} (eqb b due) (λ p. with_value bytes (ap (λ (z : ℕ). z ∷ bytes) (eqb-true b due p)))
+    (λ p. with_fault (at rule.Header (suc (length bytes))) ([], b ∷ bytes, due ∷ dues, refl, refl, refl, eqb-false b due p))) (λ x o. o) (λ rest w.
+    weaker (header-ends dues rest) (λ last v. w ∙ ap (λ (l : List ℕ). due ∷ l) v)
+    (λ x o. (due ∷ o.0, o.1, o.2, w ∙ ap (λ (l : List ℕ). due ∷ l) o.3, ap (λ (l : List ℕ). due ∷ l) o.4, o.5, o.6)))
 
 -- the header is read again
 header-again : (dues rest : List ℕ) → header_at dues (dues ++ rest) ≡ Ok rest
@@ -67,7 +64,7 @@ exports-stage : Stage Exported NoExport export_at 6 7
 exports-stage = record { reads = export-reads; lt = omega arith; next = refl; known = (5, omega arith, refl); kind = λ Q h. inr (inr (inr (inr (inr (inr (inl (refl, h))))))) }
 
 codes-stage : Stage Body NoBody (filled_at body_at) 7 10
-codes-stage = record { reads = record { spells = body-spells; breaks = body-breaks }; lt = omega arith; next = refl; known = (6, omega arith, refl); kind = λ Q h. inr (inr (inr (inr (inr (inr (inr (inl (refl, h)))))))) }
+codes-stage = record { reads = body-reads; lt = omega arith; next = refl; known = (6, omega arith, refl); kind = λ Q h. inr (inr (inr (inr (inr (inr (inr (inl (refl, h)))))))) }
 
 segments-stage : Stage Data NoData segment_at 10 11
 segments-stage = record { reads = segment-reads; lt = omega arith; next = refl; known = (7, omega arith, refl); kind = λ Q h. inr (inr (inr (inr (inr (inr (inr (inr (refl, h)))))))) }
@@ -98,16 +95,17 @@ still {raws = raws} Q j ys d some le h = lists-along Q j d.upto.piece.raws raws 
 head-ends : (start : List ℕ) → Ends (λ y. FirstDone start y.0.0 y.0.1 y.1) (Stopped start) (head_at begin start)
 unfolding head_at
 head-ends start =
-    step _ _ _ _ (section_at function_type_at 1 begin start) _ (section-ends _ _ function_type_at 0 1 types-stage start begin start u) (λ x s. s) (λ a d1.
-    step _ _ _ _ (section_at import_at 2 a.0.1 a.1) _ (section-ends _ _ import_at 1 2 imports-stage start a.0.1 a.1 d1.upto) (λ x s. s) (λ b d2.
-    step _ _ _ _ (section_at index_at 3 b.0.1 b.1) _ (section-ends _ _ index_at 2 3 functions-stage start b.0.1 b.1 d2.upto) (λ x s. s) (λ c d3.
-    step _ _ _ _ (section_at memory_at 5 c.0.1 c.1) _ (section-ends _ _ memory_at 3 5 memory-stage start c.0.1 c.1 d3.upto) (λ x s. s) (λ d d4. record {
+    step _ (section-ends types-stage start begin start u) (λ x s. s) (λ a d1.
+    step _ (section-ends imports-stage start a.0.1 a.1 d1.upto) (λ x s. s) (λ b d2.
+    step _ (section-ends functions-stage start b.0.1 b.1 d2.upto) (λ x s. s) (λ c d3.
+    step _ (section-ends memory-stage start c.0.1 c.1 d3.upto) (λ x s. s) (λ d d4.
+    with_value _ (record {
       upto = d4.upto;
       types = still Type_of_function 1 a.0.0 d4 (omega arith) (omega arith) (still Type_of_function 1 a.0.0 d3 (omega arith) (omega arith) (still Type_of_function 1 a.0.0 d2 (omega arith) (omega arith) d1.lists));
       imports = still Imported 2 b.0.0 d4 (omega arith) (omega arith) (still Imported 2 b.0.0 d3 (omega arith) (omega arith) d2.lists);
       functions = still Index 3 c.0.0 d4 (omega arith) (omega arith) d3.lists;
       memory = d4.lists;
-    })))) where
+    }))))) where
       u : Upto 0 start begin start
       u = record { piece = nothing start; order = tt; low = omega arith; others = λ j lt. refl; all = λ cs. refl; next = inl refl }
 
@@ -115,44 +113,43 @@ head-ends start =
 tail-ends : (start : List ℕ) (found : Found) (bytes : List ℕ) (u : Upto 5 start found bytes) → Ends (λ y. LastDone start u.piece.raws y.0.0 y.0.1 y.1) (Stopped start) (tail_at found bytes)
 unfolding tail_at
 tail-ends start found bytes u =
-    step _ _ _ _ (section_at global_at 6 found bytes) _ (section-ends _ _ global_at 5 6 globals-stage start found bytes u) (λ x s. s) (λ a d1.
-    step _ _ _ _ (section_at export_at 7 a.0.1 a.1) _ (section-ends _ _ export_at 6 7 exports-stage start a.0.1 a.1 d1.upto) (λ x s. s) (λ b d2.
-    step _ _ _ _ (section_at (filled_at body_at) 10 b.0.1 b.1) _ (section-ends _ _ (filled_at body_at) 7 10 codes-stage start b.0.1 b.1 d2.upto) (λ x s. s) (λ c d3.
-    step _ _ _ _ (section_at segment_at 11 c.0.1 c.1) _ (section-ends _ _ segment_at 10 11 segments-stage start c.0.1 c.1 d3.upto) (λ x s. s) (λ d d4. record {
+    step _ (section-ends globals-stage start found bytes u) (λ x s. s) (λ a d1.
+    step _ (section-ends exports-stage start a.0.1 a.1 d1.upto) (λ x s. s) (λ b d2.
+    step _ (section-ends codes-stage start b.0.1 b.1 d2.upto) (λ x s. s) (λ c d3.
+    step _ (section-ends segments-stage start c.0.1 c.1 d3.upto) (λ x s. s) (λ d d4.
+    with_value _ (record {
       upto = d4.upto;
       kept = λ j some le. d4.kept j some (omega arith) ∙ d3.kept j some (omega arith) ∙ d2.kept j some (omega arith) ∙ d1.kept j some le;
       globals = still Global 6 a.0.0 d4 (omega arith) (omega arith) (still Global 6 a.0.0 d3 (omega arith) (omega arith) (still Global 6 a.0.0 d2 (omega arith) (omega arith) d1.lists));
       exports = still Exported 7 b.0.0 d4 (omega arith) (omega arith) (still Exported 7 b.0.0 d3 (omega arith) (omega arith) d2.lists);
       codes = still Body 10 c.0.0 d4 (omega arith) (omega arith) d3.lists;
       segments = d4.lists;
-    }))))
+    })))))
 
 -- ---- the module
 
-abbrev Fails : List ℕ → Fault → Type 0
-Fails bytes x = NoModule x.rule x.left bytes × (x.left ≤ length bytes)
-
 -- a section fails behind the header
-behind_header : (bytes rest : List ℕ) (x : Fault) → bytes ≡ header ++ rest → Stopped rest x → Fails bytes x
-behind_header bytes rest x w s =
-    let p = s.piece in (
-      inr (inl (p.raws, s.order, p.hold, record { front = header; back = rest; whole = w; first = refl; second = record { front = p.front; back = s.back; whole = p.whole; first = p.each; second = s.next } })),
-      omega (arith, s.within, ap length w, length-append header rest, ap length p.whole, length-append p.front s.back),
-    )
+behind_header : {bytes rest : List ℕ} {x : Fault} → bytes ≡ header ++ rest → Stopped rest x → Broken NoModule bytes x
+behind_header {rest = rest} w s =
+    let p = s.piece in
+    record {
+      fails = inr (inl (p.raws, s.order, p.hold, record { front = header; back = rest; whole = w; first = refl; second = record { front = p.front; back = s.back; whole = p.whole; first = p.each; second = s.broken.fails } }));
+      within = omega (arith, s.broken.within, ap length w, length-append header rest, ap length p.whole, length-append p.front s.back);
+    }
 
 -- all sections were read, and what is left behind custom ones is looked at
 finish : (bytes rest : List ℕ) → bytes ≡ header ++ rest → (first : FirstParts) (g : Found) (r : List ℕ) (h : FirstDone rest first g r) (parts : LastParts) (found : Found) (left : List ℕ) → LastDone rest h.upto.piece.raws parts found left
     → (all : Found) (over : List ℕ) → Skipped found left all over
-    → Ends (Spelled bytes) (Fails bytes) (cond (eqb (length over) 0) (cond (eqb (length first.functions) (length parts.codes)) (Ok (whole_of first parts all)) (Err (at rule.Size 0))) (Err (at rule.Section (length over))))
+    → Ends (Spelled bytes) (Broken NoModule bytes) (cond (eqb (length over) 0) (cond (eqb (length first.functions) (length parts.codes)) (Ok (whole_of first parts all)) (Err (at rule.Size 0))) (Err (at rule.Section (length over))))
 finish bytes rest w first g r h parts found left t all over s =
     let piece = o.upto.piece in
     let raws = piece.raws in
-    by_test _ _ (eqb (length over) 0) _ _ (λ e.
+    by_test (eqb (length over) 0) (λ e.
     let none : over ≡ [] = nil_from_length over (eqb-true (length over) 0 e) in
     let each : Each RawSection raws rest = subst (Each RawSection raws) (sym (piece.whole ∙ ap (λ (l : List ℕ). piece.front ++ l) none ∙ append-nil piece.front)) piece.each in
     let whole : Joined (Is header) (Each RawSection raws) bytes = record { front = header; back = rest; whole = w; first = refl; second = each } in
-    by_test _ _ (eqb (length first.functions) (length parts.codes)) _ _
-    (λ same. record {
+    by_test (eqb (length first.functions) (length parts.codes))
+    (λ same. with_value _ (record {
       raws = raws;
       found = piece.customs;
       whole = whole;
@@ -168,9 +165,12 @@ finish bytes rest w first g r h parts found left t all over s =
       customs = piece.are;
       sorted = sym (unfiltered all) ∙ o.upto.all [] ∙ ap (total begin) (append-nil piece.customs);
       bodies = eqb-true _ _ same;
-    })
-    (λ other. (inr (inr (refl, refl, raws, first.functions, parts.codes, o.upto.order, whole, early Index 3 first.functions (omega arith) (omega arith) h.functions, late Body 10 parts.codes (omega arith) t.codes, eqb-false (length first.functions) (length parts.codes) other)), omega arith)))
-    (λ e. behind_header bytes rest (at rule.Section (length over)) w (misplaced rest left over found all t.upto s (eqb-false (length over) 0 e))) where
+    }))
+    (λ other. with_fault (at rule.Size 0) (record {
+      fails = inr (inr (refl, refl, raws, first.functions, parts.codes, o.upto.order, whole, early Index 3 first.functions (omega arith) (omega arith) h.functions, late Body 10 parts.codes (omega arith) t.codes, eqb-false (length first.functions) (length parts.codes) other));
+      within = omega arith;
+    })))
+    (λ e. with_fault (at rule.Section (length over)) (behind_header w (misplaced rest left over found all t.upto s (eqb-false (length over) 0 e)))) where
       o : Past 11 rest t.upto.piece.raws all over
       o = past 11 rest left over found all t.upto s
 
@@ -181,71 +181,40 @@ finish bytes rest w first g r h parts found left t all over s =
       early P j xs some le l = late P j xs some (lists-along P j t.upto.piece.raws h.upto.piece.raws xs (t.kept j some le) l)
 
 -- what is read is spelled, and what is refused fails
-pub module-ends : (bytes : List ℕ) → Ends (Spelled bytes) (Fails bytes) (module_at bytes)
+pub module-ends : (bytes : List ℕ) → Ends (Spelled bytes) (Broken NoModule bytes) (module_at bytes)
 unfolding module_at
 module-ends bytes =
-    step _ _ _ _ (header_at header bytes) _ (header-end header bytes)
-    (λ x o. (inl (ap (λ (y : Fault). y.rule) o.5, o.0, o.1, o.2, o.3, o.4, ap (λ (y : Fault). y.left) o.5, o.6), omega (arith, ap (λ (y : Fault). y.left) o.5, ap length o.3, length-append o.0 o.1))) (λ rest w.
-    step _ _ _ _ (head_at begin rest) _ (head-ends rest) (λ x s. behind_header bytes rest x w s) (λ head h.
-    step _ _ _ _ (tail_at head.0.1 head.1) _ (tail-ends rest head.0.1 head.1 h.upto) (λ x s. behind_header bytes rest x w s) (λ tail t.
-    step _ _ _ _ (customs_at (length tail.1) tail.0.1 tail.1) _ (customs-end (length tail.1) tail.0.1 tail.1 (omega arith)) (λ x s. behind_header bytes rest x w (skip-stopped 11 rest tail.1 tail.0.1 x t.upto s)) (λ last s.
+    step (header_at header bytes) (header-ends header bytes)
+    (λ x o. record { fails = inl (ap (λ (y : Fault). y.rule) o.5, o.0, o.1, o.2, o.3, o.4, ap (λ (y : Fault). y.left) o.5, o.6); within = omega (arith, ap (λ (y : Fault). y.left) o.5, ap length o.3, length-append o.0 o.1) }) (λ rest w.
+    step (head_at begin rest) (head-ends rest) (λ x s. behind_header w s) (λ head h.
+    step (tail_at head.0.1 head.1) (tail-ends rest head.0.1 head.1 h.upto) (λ x s. behind_header w s) (λ tail t.
+    step (customs_at (length tail.1) tail.0.1 tail.1) (customs-ends (length tail.1) tail.0.1 tail.1 (omega arith)) (λ x s. behind_header w (skip-stopped t.upto s)) (λ last s.
     finish bytes rest w head.0.0 head.0.1 head.1 h tail.0.0 tail.0.1 tail.1 t last.0 last.1 s))))
-
--- what is read is spelled
-pub module-found : (bytes : List ℕ) (m : Module) → module_at bytes ≡ Ok m → Spelled bytes m
-module-found bytes m e = ends_ok (Spelled bytes) (Fails bytes) (module_at bytes) m (module-ends bytes) e
 
 -- the first fault of reading, at its offset
 pub fails-at : (bytes : List ℕ) (x : Fault) → module_at bytes ≡ Err x → FailsAt x.rule (length bytes - x.left) bytes
-fails-at bytes x e = let f = ends_err (Spelled bytes) (Fails bytes) (module_at bytes) x (module-ends bytes) e in (x.left, omega (arith, f.1), f.0)
+fails-at bytes x e = let b = (module-ends bytes).err x e in (x.left, omega (arith, b.within), b.fails)
 
 -- ---- read again
-
--- of all sections, those after this id are still to be read
-pub record Ahead (raws : List Raw) (customs : List Custom) (b : ℕ) (found : Found) (bytes : List ℕ) : Type 0 where
-  pub more : List Raw
-  pub cs : List Custom
-  pub each : Each RawSection more bytes
-  pub order : InOrder b more
-  pub are : CustomsAre more cs
-  pub others : (j : ℕ) → b < j → contents_of j more ≡ contents_of j raws
-  pub all : total found cs ≡ customs
-
-pub record Onward {A : Type 0} (raws : List Raw) (customs : List Custom) (id : ℕ) (xs : List A) (read : Result ((List A × Found) × List ℕ) Fault) : Type 0 where
-  pub after : Found
-  pub rest : List ℕ
-  pub reads : read ≡ Ok ((xs, after), rest)
-  pub ahead : Ahead raws customs id after rest
-
-onward : {A : Type 0} (P : A → List ℕ → Type 0) (F : ModuleRule → ℕ → List ℕ → Type 0) (f : Reader A) (b id : ℕ) → Stage P F f b id → (raws : List Raw) (customs : List Custom) (found : Found) (bytes : List ℕ) (xs : List A)
-    → Ahead raws customs b found bytes → Lists P id raws xs → Onward raws customs id xs (section_at f id found bytes)
-onward P F f b id s raws customs found bytes xs h lists =
-    let t = section-again P f b id s.reads.spells (omega (arith, s.lt)) s.lt s.next found h.more h.cs bytes xs h.each h.order h.are (lists-along P id h.more raws xs (h.others id s.lt) lists) in
-    record {
-      after = t.after;
-      rest = t.bytes;
-      reads = t.reads;
-      ahead = record { more = t.more; cs = t.cs; each = t.each; order = t.order; are = t.are; others = λ j more. t.others j more ∙ h.others j (omega (arith, s.lt)); all = t.all ∙ h.all };
-    }
 
 head-again : (raws : List Raw) (customs : List Custom) (m : Module) (found : Found) (bytes : List ℕ) → Ahead raws customs 0 found bytes → Lists Type_of_function 1 raws m.types → Lists Imported 2 raws m.imports → Lists Index 3 raws m.functions → Lists Memory 5 raws m.memory
     → (after : Found) × (rest : List ℕ) × (head_at found bytes ≡ Ok ((record { types = m.types; imports = m.imports; functions = m.functions; memory = m.memory }, after), rest)) × Ahead raws customs 5 after rest
 unfolding head_at
 head-again raws customs m found bytes h l0 l1 l2 l3 =
-    let t0 = onward Type_of_function NoFunctionType function_type_at 0 1 types-stage raws customs found bytes m.types h l0 in
-    let t1 = onward Imported NoImport import_at 1 2 imports-stage raws customs t0.after t0.rest m.imports t0.ahead l1 in
-    let t2 = onward Index NoIndex index_at 2 3 functions-stage raws customs t1.after t1.rest m.functions t1.ahead l2 in
-    let t3 = onward Memory NoMemory memory_at 3 5 memory-stage raws customs t2.after t2.rest m.memory t2.ahead l3 in
+    let t0 = onward types-stage h l0 in
+    let t1 = onward imports-stage t0.ahead l1 in
+    let t2 = onward functions-stage t1.ahead l2 in
+    let t3 = onward memory-stage t2.ahead l3 in
     (t3.after, t3.rest, rw (t0.reads, t1.reads, t2.reads, t3.reads) refl, t3.ahead)
 
 tail-again : (raws : List Raw) (customs : List Custom) (m : Module) (found : Found) (bytes : List ℕ) → Ahead raws customs 5 found bytes → Lists Global 6 raws m.globals → Lists Exported 7 raws m.exports → Lists Body 10 raws m.codes → Lists Data 11 raws m.segments
     → (after : Found) × (rest : List ℕ) × (tail_at found bytes ≡ Ok ((record { globals = m.globals; exports = m.exports; codes = m.codes; segments = m.segments }, after), rest)) × Ahead raws customs 11 after rest
 unfolding tail_at
 tail-again raws customs m found bytes h l0 l1 l2 l3 =
-    let t0 = onward Global NoGlobal global_at 5 6 globals-stage raws customs found bytes m.globals h l0 in
-    let t1 = onward Exported NoExport export_at 6 7 exports-stage raws customs t0.after t0.rest m.exports t0.ahead l1 in
-    let t2 = onward Body NoBody (filled_at body_at) 7 10 codes-stage raws customs t1.after t1.rest m.codes t1.ahead l2 in
-    let t3 = onward Data NoData segment_at 10 11 segments-stage raws customs t2.after t2.rest m.segments t2.ahead l3 in
+    let t0 = onward globals-stage h l0 in
+    let t1 = onward exports-stage t0.ahead l1 in
+    let t2 = onward codes-stage t1.ahead l2 in
+    let t3 = onward segments-stage t2.ahead l3 in
     (t3.after, t3.rest, rw (t0.reads, t1.reads, t2.reads, t3.reads) refl, t3.ahead)
 
 no_customs : (raws : List Raw) (cs : List Custom) → raws ≡ [] → CustomsAre raws cs → cs ≡ []
@@ -257,22 +226,23 @@ read_to after rest = Ok (after, rest)
 last-again : (raws : List Raw) (customs : List Custom) (found : Found) (bytes : List ℕ) → Ahead raws customs 11 found bytes
     → (after : Found) × (customs_at (length bytes) found bytes ≡ Ok (after, [])) × (after.others ++ after.named ≡ customs)
 last-again raws customs found bytes h =
-    let l = customs-again (length bytes) found 11 h.more h.cs bytes (omega arith) h.each h.order h.are in
-    let none = nothing_left l.more l.bytes l.each l.order l.stops in
-    let all : l.after.others ++ l.after.named ≡ customs = sym (unfiltered l.after) ∙ ap (total l.after) (sym (no_customs l.more l.cs none.0 l.are)) ∙ l.all ∙ h.all in
-    (l.after, l.reads ∙ ap (λ (r : List ℕ). read_to l.after r) none.1, all)
+    let c = customs-again (length bytes) 11 found bytes h.more h.cs (omega arith) h.each h.order h.are h.others h.all in
+    let g = c.0.after in
+    let a = c.0.ahead in
+    let none = nothing_left a.more c.0.rest a.each a.order c.1 in
+    let all : g.others ++ g.named ≡ customs = sym (unfiltered g) ∙ ap (total g) (sym (no_customs a.more a.cs none.0 a.are)) ∙ a.all in
+    (g, c.0.reads ∙ ap (λ (r : List ℕ). read_to g r) none.1, all)
 
 pub module-again : (bytes : List ℕ) (m : Module) → Spelled bytes m → module_at bytes ≡ Ok m
 unfolding module_at
 module-again bytes m s =
     let w = s.whole in
     let first : header_at header bytes ≡ Ok w.back = ap (header_at header) (w.whole ∙ ap (λ (l : List ℕ). l ++ w.back) w.first) ∙ header-again header w.back in
-    let begun : Ahead s.raws (total begin s.found) 0 begin w.back = record { more = s.raws; cs = s.found; each = w.second; order = s.order; are = s.customs; others = λ j some. refl; all = refl } in
-    let h = head-again s.raws (total begin s.found) m begin w.back begun s.types s.imports s.functions s.memory in
-    let t = tail-again s.raws (total begin s.found) m h.0 h.1 h.3 s.globals s.exports s.codes s.segments in
-    let l = last-again s.raws (total begin s.found) t.0 t.1 t.3 in
-    let all : l.0.others ++ l.0.named ≡ m.customs = l.2 ∙ sym s.sorted in
-    rw (first, h.2, t.2, l.1, eq-eqb (length m.functions) (length m.codes) s.bodies, all) refl
+    let begun : Ahead s.raws m.customs 0 begin w.back = record { more = s.raws; cs = s.found; each = w.second; order = s.order; are = s.customs; others = λ j some. refl; all = sym s.sorted } in
+    let h = head-again s.raws m.customs m begin w.back begun s.types s.imports s.functions s.memory in
+    let t = tail-again s.raws m.customs m h.0 h.1 h.3 s.globals s.exports s.codes s.segments in
+    let l = last-again s.raws m.customs t.0 t.1 t.3 in
+    rw (first, h.2, t.2, l.1, eq-eqb (length m.functions) (length m.codes) s.bodies, l.2) refl
 
 -- what is spelled is what is read, so it is one module
 pub spelled_once : (bytes : List ℕ) (m n : Module) → Spelled bytes m → Spelled bytes n → m ≡ n

@@ -1,132 +1,119 @@
--- A number that is read is spelled by the bytes that were taken, and each of its spellings is read again.
-use Rattle.std.proofs.Common.{◌≡◌, ℕ, ◌+◌, ◌-◌, ◌*◌, ◌^◌, ◌≤◌, ◌<◌, Bool, true, false, ltb, List, [], ◌∷◌, ◌++◌, length, Ok, refl, ap, subst, arith, ℤ, pos, inl, inr}
-use Rattle.std.specs.Prelude.{◌&&◌, ◌+ℤ◌, ◌-ℤ◌, ◌*ℤ◌}
+-- A number that is read is spelled by the bytes that were taken, each of its spellings is read again, and where none
+-- is read none begins.
+use Rattle.std.proofs.Common.{◌≡◌, ℕ, ◌-◌, ◌^◌, ◌≤◌, ◌<◌, Bool, true, false, cond, ltb, List, [], ◌∷◌, ◌++◌, length, Option, Some, None, Ok, Err, refl, ap, ◌∙◌, arith, ℤ, pos, ◌⊎◌, inl, inr}
+use Rattle.std.specs.Prelude.{◌&&◌, ◌-ℤ◌}
+use Rattle.std.proofs.Math.Nat.{one-le-pow}
 use Rattle.std.proofs.lemmas.Bool.{ltb-true, ltb-false, le-ltb, lt-ltb}
 use Rattle.std.proofs.lemmas.Int.{ints}
-use Rattle.wasm_tree.specs.Spelled.{Unsigned, Signed, Index}
-use Rattle.wasm_reader.specs.Reading.{unsigned_from, index_at, signed_from, signed_at}
-use Rattle.wasm_reader.proofs.Steps.{ok_is}
-use Rattle.wasm_reader.proofs.Numbers.{signed_as}
-use Rattle.wasm_reader.proofs.Laws.{Taken, Spells, bind_ok, chosen}
+use Rattle.wasm_tree.specs.declared.failure.ModuleRule.TheVariants as rule
+use Rattle.wasm_tree.specs.Spelled.{Unsigned, Signed, SignedLast, Index}
+use Rattle.wasm_reader.specs.declared.fault.Fault.{Fault}
+use Rattle.wasm_reader.specs.Fault.{NoNumber, NoIndex}
+use Rattle.wasm_reader.specs.Reading.{at, number_from, last_unsigned, more_unsigned, last_signed, more_signed, index_at, signed_at}
+use Rattle.wasm_reader.proofs.Ends.{Ends, with_value, with_fault, step, weaker, by_test, by_value}
+use Rattle.wasm_reader.proofs.Readers.{Taken, Broken, Reads, both_true}
 
-pub both_true : (a b : Bool) → (a && b) ≡ true → (a ≡ true) × (b ≡ true)
-both_true true b e = (refl, e)
-both_true false b e = absurd cc
+-- how P spells numbers by what a last byte stands for, and a byte before
+record Kind {A : Type 0} (last : ℕ → ℕ → Option A) (more : ℕ → A → A) (P : ℕ → A → List ℕ → Type 0) : Type 0 where
+  none : (bits : ℕ) (z : A) → P bits z [] → ⊥
+  one : (bits b : ℕ) (z : A) → b < 128 → last bits b ≡ Some z → P bits z (b ∷ [])
+  is_one : (bits b : ℕ) (z : A) → P bits z (b ∷ []) → (b < 128) × (last bits b ≡ Some z)
+  several : (bits b c : ℕ) (high : A) (bytes : List ℕ) → 128 ≤ b → b < 256 → 7 < bits → P (bits - 7) high (c ∷ bytes) → P bits (more b high) (b ∷ c ∷ bytes)
+  are_several : (bits b c : ℕ) (z : A) (bytes : List ℕ) → P bits z (b ∷ c ∷ bytes) → (128 ≤ b) × (b < 256) × (7 < bits) × (high : A) × (more b high ≡ z) × P (bits - 7) high (c ∷ bytes)
+  zero : (bits : ℕ) → 0 < bits → (z : A) × (last bits 0 ≡ Some z)
 
-more_unsigned : (bits b n high : ℕ) (front : List ℕ) → 128 ≤ b → b < 256 → 7 < bits → n + 128 ≡ b + 128 * high → Unsigned (bits - 7) high front → Unsigned bits n (b ∷ front)
-more_unsigned bits b n high [] ge byte lt is h = absurd h
-more_unsigned bits b n high (c ∷ front) ge byte lt is h = (ge, byte, lt, high, is, h)
+-- whatever follows, no number is read; or the rest of one is missing
+abbrev Unread : {A : Type 0} → (ℕ → ℕ → Option A) → (ℕ → A → A) → (ℕ → A → List ℕ → Type 0) → ℕ → ℕ → List ℕ → Fault → Type 0
+Unread {A} last more P start bits bytes x =
+    ((x ≡ at rule.Number start) × ((extra : List ℕ) → number_from last more start bits (bytes ++ extra) ≡ Err (at rule.Number start)))
+    ⊎ ((x ≡ at rule.Size 0) × (z : A) × (extra : List ℕ) × (0 < length extra) × P bits z (bytes ++ extra))
 
-pub unsigned-found : (start bits : ℕ) (bytes : List ℕ) (n : ℕ) (rest : List ℕ) → unsigned_from start bits bytes ≡ Ok (n, rest) → Taken (Unsigned bits) bytes n rest
-unfolding unsigned_from
-unsigned-found start bits [] n rest e = absurd cc
-unsigned-found start bits (b ∷ bytes) n rest e =
-    elim (chosen (ltb b 128) _ _ (Ok (n, rest)) e) [
-      | inl h ↦
-          elim (chosen (ltb b (2 ^ bits)) (Ok (b, bytes)) _ (Ok (n, rest)) h.1) [
-            | inl k ↦
-                subst (λ (q : ℕ × List ℕ). Taken (Unsigned bits) (b ∷ bytes) q.0 q.1) (ok_is (b, bytes) (n, rest) k.1)
-                (record { front = b ∷ []; whole = refl; spelled = (ltb-true _ _ h.0, ltb-true _ _ k.0, refl) })
-            | inr k ↦ absurd (cc k.1)
-          ]
-      | inr h ↦
-          elim (chosen (ltb 7 bits && ltb b 256) _ _ (Ok (n, rest)) h.1) [
-            | inl k ↦
-                let tests = both_true (ltb 7 bits) (ltb b 256) k.0 in
-                let a = bind_ok (unsigned_from start (bits - 7) bytes) (λ high. Ok ((b - 128) + 128 * high.0, high.1)) (n, rest) k.1 in
-                let t = unsigned-found start (bits - 7) bytes a.0.0 a.0.1 a.1 in
-                let ge : 128 ≤ b = ltb-false _ _ h.0 in
-                subst (λ (q : ℕ × List ℕ). Taken (Unsigned bits) (b ∷ bytes) q.0 q.1) (ok_is ((b - 128) + 128 * a.0.0, a.0.1) (n, rest) a.2)
-                (record {
-                  front = b ∷ t.front;
-                  whole = ap (λ (l : List ℕ). b ∷ l) t.whole;
-                  spelled = more_unsigned bits b ((b - 128) + 128 * a.0.0) a.0.0 t.front ge (ltb-true _ _ tests.1) (ltb-true _ _ tests.0) (omega arith) t.spelled;
-                })
-            | inr k ↦ absurd (cc k.1)
-          ]
-    ]
+longer : {A : Type 0} {last : ℕ → ℕ → Option A} {more : ℕ → A → A} {P : ℕ → A → List ℕ → Type 0} → Kind last more P → (bits b : ℕ) (high : A) (bytes : List ℕ) → 128 ≤ b → b < 256 → 7 < bits → P (bits - 7) high bytes → P bits (more b high) (b ∷ bytes)
+longer k bits b high [] ge byte lt h = absurd (k.none (bits - 7) high h)
+longer k bits b high (c ∷ bytes) ge byte lt h = k.several bits b c high bytes ge byte lt h
 
-pub unsigned-again : (start bits n : ℕ) (front rest : List ℕ) → Unsigned bits n front → unsigned_from start bits (front ++ rest) ≡ Ok (n, rest)
-unfolding unsigned_from
-unsigned-again start bits n [] rest h = absurd h
-unsigned-again start bits n (b ∷ []) rest h = rw (lt-ltb b 128 h.0, lt-ltb b (2 ^ bits) h.1, h.2) refl
-unsigned-again start bits n (b ∷ c ∷ front) rest h =
-    let so : unsigned_from start (bits - 7) (c ∷ (front ++ rest)) ≡ Ok (h.3, rest) = unsigned-again start (bits - 7) h.3 (c ∷ front) rest h.5 in
-    let is : (b - 128) + 128 * h.3 ≡ n = omega (arith, h.0, h.4) in
-    rw (le-ltb b 128 h.0, lt-ltb 7 bits h.2, lt-ltb b 256 h.1, so, is) refl
+number-ends : {A : Type 0} {last : ℕ → ℕ → Option A} {more : ℕ → A → A} {P : ℕ → A → List ℕ → Type 0} → Kind last more P → (start bits : ℕ) (bytes : List ℕ) → 0 < bits
+    → Ends (λ y. Taken (P bits) bytes y.0 y.1) (Unread last more P start bits bytes) (number_from last more start bits bytes)
+unfolding number_from
+number-ends k start bits [] some = let z = k.zero bits some in with_fault (at rule.Size 0) (inr (refl, z.0, 0 ∷ [], omega arith, k.one bits 0 z.0 (omega arith) z.1))
+number-ends {last = last} {more} {P} k start bits (b ∷ bytes) some =
+    by_test (ltb b 128)
+    (λ p.
+    step _ (by_value {G = λ z. last bits b ≡ Some z} {N = Unread last more P start bits (b ∷ bytes)} (at rule.Number start) (last bits b) (λ z e. e) (λ e. inl (refl, λ extra. rw (p, e) refl))) (λ x h. h)
+    (λ z e. with_value (z, bytes) (record { front = b ∷ []; whole = refl; spelled = k.one bits b z (ltb-true _ _ p) e })))
+    (λ p. by_test (ltb 7 bits && ltb b 256)
+    (λ q.
+    let tests = both_true (ltb 7 bits) (ltb b 256) q in
+    let ge : 128 ≤ b = ltb-false _ _ p in
+    let lt = ltb-true 7 bits tests.0 in
+    let byte = ltb-true b 256 tests.1 in
+    step _ (number-ends k start (bits - 7) bytes (omega (arith, lt)))
+    (λ x h. elim h [
+      | inl m ↦ inl (m.0, λ extra. rw (p, tests.0, tests.1, m.1 extra) refl)
+      | inr m ↦ inr (m.0, more b m.1, m.2, m.3, longer k bits b m.1 (bytes ++ m.2) ge byte lt m.4)
+    ])
+    (λ y t. with_value (more b y.0, y.1) (record { front = b ∷ t.front; whole = ap (λ (l : List ℕ). b ∷ l) t.whole; spelled = longer k bits b y.0 t.front ge byte lt t.spelled })))
+    (λ q. with_fault (at rule.Number start) (inl (refl, λ extra. rw (p, q) refl))))
 
-pub index-spells : Spells Index index_at
+number-again : {A : Type 0} {last : ℕ → ℕ → Option A} {more : ℕ → A → A} {P : ℕ → A → List ℕ → Type 0} → Kind last more P → (start bits : ℕ) (z : A) (front rest : List ℕ) → P bits z front → number_from last more start bits (front ++ rest) ≡ Ok (z, rest)
+unfolding number_from
+number-again k start bits z [] rest h = absurd (k.none bits z h)
+number-again k start bits z (b ∷ []) rest h = let o = k.is_one bits b z h in rw (lt-ltb b 128 o.0, o.1) refl
+number-again k start bits z (b ∷ c ∷ front) rest h =
+    let s = k.are_several bits b c z front h in
+    rw (le-ltb b 128 s.0, lt-ltb 7 bits s.2, lt-ltb b 256 s.1, number-again k start (bits - 7) s.3 (c ∷ front) rest s.5, s.4) refl
+
+number-reads : {A : Type 0} {last : ℕ → ℕ → Option A} {more : ℕ → A → A} {P : ℕ → A → List ℕ → Type 0} → Kind last more P → (bits : ℕ) → 0 < bits → Reads (P bits) (NoNumber (P bits)) (λ bytes. number_from last more (length bytes) bits bytes)
+number-reads {A} {last} {more} {P} k bits some = record {
+  ends = λ bytes. weaker (number-ends k (length bytes) bits bytes some) (λ y t. t) (unread bytes);
+  again = λ z front rest h. number-again k (length (front ++ rest)) bits z front rest h;
+} where
+  unread : (bytes : List ℕ) (x : Fault) → Unread last more P (length bytes) bits bytes x → Broken (NoNumber (P bits)) bytes x
+  unread bytes x (inl (is, none)) = rw is (record { fails = inl (refl, refl, λ z extra front back w h. absurd (cc (none extra, ap (number_from last more (length bytes) bits) w ∙ number-again k (length bytes) bits z front back h))); within = omega arith })
+  unread bytes x (inr h) = rw h.0 (record { fails = inr (refl, refl, h.1, h.2, h.3, h.4); within = omega arith })
+
+-- ---- both kinds
+
+unsigned : Kind last_unsigned more_unsigned Unsigned
+unsigned = record {
+  none = λ bits z h. h;
+  one = λ bits b z lt e. one bits b z (ltb b (2 ^ bits)) refl lt e;
+  is_one = λ bits b z h. (h.0, rw (lt-ltb b (2 ^ bits) h.1, h.2) refl);
+  several = λ bits b c high bytes ge byte lt h. (ge, byte, lt, high, omega arith, h);
+  are_several = λ bits b c z bytes h. (h.0, h.1, h.2, h.3, omega (arith, h.0, h.4), h.5);
+  zero = λ bits some. (0, rw (lt-ltb 0 (2 ^ bits) (one-le-pow bits 2 (omega arith))) refl);
+} where
+  one : (bits b z : ℕ) (t : Bool) → ltb b (2 ^ bits) ≡ t → b < 128 → cond t (Some b) None ≡ Some z → (b < 128) × (b < 2 ^ bits) × (z ≡ b)
+  one bits b z true is lt e = (lt, ltb-true _ _ is, cc)
+  one bits b z false is lt e = absurd cc
+
+signed : Kind last_signed more_signed Signed
+signed = record {
+  none = λ bits z h. h;
+  one = λ bits b z lt e. one bits b z (ltb b 64) _ refl refl lt e;
+  is_one = is_one;
+  several = λ bits b c high bytes ge byte lt h. (ge, byte, lt, high, omega (arith, ints), h);
+  are_several = λ bits b c z bytes h. (h.0, h.1, h.2, h.3, omega (arith, ints, h.0, h.4), h.5);
+  zero = λ bits some. (pos 0, rw (lt-ltb 0 (2 ^ (bits - 1)) (one-le-pow (bits - 1) 2 (omega arith))) refl);
+} where
+  one : (bits b : ℕ) (z : ℤ) (s t : Bool) → ltb b 64 ≡ s → ltb (cond s b (127 - b)) (2 ^ (bits - 1)) ≡ t → b < 128 → cond t (Some (cond s (pos b) (pos b -ℤ pos 128))) None ≡ Some z → SignedLast bits z b
+  one bits b z true true low small lt e = inl (ltb-true _ _ low, ltb-true _ _ small, cc)
+  one bits b z false true low small lt e =
+      let is : pos b -ℤ pos 128 ≡ z = cc in
+      inr (ltb-false _ _ low, lt, omega (arith, ltb-true _ _ small), omega (arith, ints, is))
+  one bits b z s false low small lt e = absurd cc
+
+  some_is : (y z : ℤ) → y ≡ z → (let o : Option ℤ = Some y in o) ≡ Some z
+  some_is y z e = cc
+
+  is_one : (bits b : ℕ) (z : ℤ) → SignedLast bits z b → (b < 128) × (last_signed bits b ≡ Some z)
+  is_one bits b z (inl h) = (omega (arith, h.0), rw (lt-ltb b 64 h.0, lt-ltb b (2 ^ (bits - 1)) h.1, h.2) refl)
+  is_one bits b z (inr h) = (h.1, rw (le-ltb b 64 h.0, lt-ltb (127 - b) (2 ^ (bits - 1)) (omega (arith, h.0, h.1, h.2))) (some_is (pos b -ℤ pos 128) z (omega (arith, ints, h.3))))
+
+pub index-reads : Reads Index NoIndex index_at
 unfolding index_at
-index-spells = record {
-  found = λ bytes n rest e. unsigned-found (length bytes) 32 bytes n rest e;
-  again = λ n front rest h. unsigned-again (length (front ++ rest)) 32 n front rest h;
-}
+index-reads = number-reads unsigned 32 (omega arith)
 
--- ---- with a sign
-
-more_signed : (bits b : ℕ) (z high : ℤ) (front : List ℕ) → 128 ≤ b → b < 256 → 7 < bits → (z +ℤ pos 128) ≡ (pos b +ℤ (pos 128 *ℤ high)) → Signed (bits - 7) high front → Signed bits z (b ∷ front)
-more_signed bits b z high [] ge byte lt is h = absurd h
-more_signed bits b z high (c ∷ front) ge byte lt is h = (ge, byte, lt, high, is, h)
-
-pub signed-found : (start bits : ℕ) (bytes : List ℕ) (z : ℤ) (rest : List ℕ) → signed_from start bits bytes ≡ Ok (z, rest) → Taken (Signed bits) bytes z rest
-unfolding signed_from
-signed-found start bits [] z rest e = absurd cc
-signed-found start bits (b ∷ bytes) z rest e =
-    elim (chosen (ltb b 64) _ _ (Ok (z, rest)) e) [
-      | inl h ↦
-          elim (chosen (ltb b (2 ^ (bits - 1))) (Ok (pos b, bytes)) _ (Ok (z, rest)) h.1) [
-            | inl k ↦
-                subst (λ (q : ℤ × List ℕ). Taken (Signed bits) (b ∷ bytes) q.0 q.1) (ok_is (pos b, bytes) (z, rest) k.1)
-                (record { front = b ∷ []; whole = refl; spelled = inl (ltb-true _ _ h.0, ltb-true _ _ k.0, refl) })
-            | inr k ↦ absurd (cc k.1)
-          ]
-      | inr h ↦
-          elim (chosen (ltb b 128) _ _ (Ok (z, rest)) h.1) [
-            | inl i ↦
-                elim (chosen (ltb (127 - b) (2 ^ (bits - 1))) (Ok (pos b -ℤ pos 128, bytes)) _ (Ok (z, rest)) i.1) [
-                  | inl k ↦
-                      let ge : 64 ≤ b = ltb-false _ _ h.0 in
-                      let lt : b < 128 = ltb-true _ _ i.0 in
-                      let fits : 127 - b < 2 ^ (bits - 1) = ltb-true _ _ k.0 in
-                      subst (λ (q : ℤ × List ℕ). Taken (Signed bits) (b ∷ bytes) q.0 q.1) (ok_is (pos b -ℤ pos 128, bytes) (z, rest) k.1)
-                      (record { front = b ∷ []; whole = refl; spelled = inr (ge, lt, omega arith, omega (arith, ints)) })
-                  | inr k ↦ absurd (cc k.1)
-                ]
-            | inr i ↦
-                elim (chosen (ltb 7 bits && ltb b 256) _ _ (Ok (z, rest)) i.1) [
-                  | inl k ↦
-                      let tests = both_true (ltb 7 bits) (ltb b 256) k.0 in
-                      let a = bind_ok (signed_from start (bits - 7) bytes) (λ high. Ok (pos (b - 128) +ℤ (pos 128 *ℤ high.0), high.1)) (z, rest) k.1 in
-                      let t = signed-found start (bits - 7) bytes a.0.0 a.0.1 a.1 in
-                      let ge : 128 ≤ b = ltb-false _ _ i.0 in
-                      subst (λ (q : ℤ × List ℕ). Taken (Signed bits) (b ∷ bytes) q.0 q.1) (ok_is (pos (b - 128) +ℤ (pos 128 *ℤ a.0.0), a.0.1) (z, rest) a.2)
-                      (record {
-                        front = b ∷ t.front;
-                        whole = ap (λ (l : List ℕ). b ∷ l) t.whole;
-                        spelled = more_signed bits b (pos (b - 128) +ℤ (pos 128 *ℤ a.0.0)) a.0.0 t.front ge (ltb-true _ _ tests.1) (ltb-true _ _ tests.0) (omega (arith, ints)) t.spelled;
-                      })
-                  | inr k ↦ absurd (cc k.1)
-                ]
-          ]
-    ]
-
-pub signed-again : (start bits : ℕ) (z : ℤ) (front rest : List ℕ) → Signed bits z front → signed_from start bits (front ++ rest) ≡ Ok (z, rest)
-unfolding signed_from
-signed-again start bits z [] rest h = absurd h
-signed-again start bits z (b ∷ []) rest (inl h) = rw (lt-ltb b 64 h.0, lt-ltb b (2 ^ (bits - 1)) h.1, h.2) refl
-signed-again start bits z (b ∷ []) rest (inr h) =
-    let small : ltb (127 - b) (2 ^ (bits - 1)) ≡ true = lt-ltb (127 - b) (2 ^ (bits - 1)) (omega (arith, h.0, h.1, h.2)) in
-    let is : (pos b -ℤ pos 128) ≡ z = omega (arith, ints, h.3) in
-    signed_as (signed_from start bits (b ∷ rest)) (pos b -ℤ pos 128) z rest (rw (le-ltb b 64 h.0, lt-ltb b 128 h.1, small) refl) is
-signed-again start bits z (b ∷ c ∷ front) rest h =
-    let so : signed_from start (bits - 7) (c ∷ (front ++ rest)) ≡ Ok (h.3, rest) = signed-again start (bits - 7) h.3 (c ∷ front) rest h.5 in
-    let is : (pos (b - 128) +ℤ (pos 128 *ℤ h.3)) ≡ z = omega (arith, ints, h.0, h.4) in
-    let low : 64 ≤ b = omega (arith, h.0) in
-    signed_as (signed_from start bits (b ∷ c ∷ (front ++ rest))) (pos (b - 128) +ℤ (pos 128 *ℤ h.3)) z rest (rw (le-ltb b 64 low, le-ltb b 128 h.0, lt-ltb 7 bits h.2, lt-ltb b 256 h.1, so) refl) is
-
-pub signed-spells : (bits : ℕ) → Spells (Signed bits) (signed_at bits)
+pub signed-reads : (bits : ℕ) → 0 < bits → Reads (Signed bits) (NoNumber (Signed bits)) (signed_at bits)
 unfolding signed_at
-signed-spells bits = record {
-  found = λ bytes z rest e. signed-found (length bytes) bits bytes z rest e;
-  again = λ z front rest h. signed-again (length (front ++ rest)) bits z front rest h;
-}
+signed-reads bits some = number-reads signed bits some

@@ -1,6 +1,6 @@
 -- An instruction begins with the byte under which its sample stands.
 use Rattle.std.proofs.Common.{◌≡◌, ℕ, Bool, true, false, cond, eqb, List, [], ◌∷◌, Option, Some, None, Ok, Err, refl, sym, ◌≤◌, ◌<◌, ◌+◌, ltb, arith, pos}
-use Rattle.std.specs.Prelude.{find}
+use Rattle.std.specs.Prelude.{find, ◌≢◌}
 use Rattle.std.proofs.lemmas.Bool.{eqb-true}
 use Rattle.wasm_tree.specs.declared.module.ValType.{ValType}
 use Rattle.wasm_tree.specs.declared.module.ValType.TheVariants.{I32, I64}
@@ -156,19 +156,9 @@ at_least true m n k p q = p
 at_least false m n k p q = q
 
 -- no instruction of control, and none with the number of a variable
-pub record IsNoControl (opcode : ℕ) : Type 0 where
-  pub Block : opcode ≡ 0x02 → ⊥
-  pub Loop : opcode ≡ 0x03 → ⊥
-  pub If : opcode ≡ 0x04 → ⊥
-  pub Br : opcode ≡ 0x0C → ⊥
-  pub BrIf : opcode ≡ 0x0D → ⊥
-  pub BrTable : opcode ≡ 0x0E → ⊥
-  pub Call : opcode ≡ 0x10 → ⊥
-  pub LocalGet : opcode ≡ 0x20 → ⊥
-  pub LocalSet : opcode ≡ 0x21 → ⊥
-  pub LocalTee : opcode ≡ 0x22 → ⊥
-  pub GlobalGet : opcode ≡ 0x23 → ⊥
-  pub GlobalSet : opcode ≡ 0x24 → ⊥
+abbrev pub IsNoControl : ℕ → Type 0
+IsNoControl b =
+    (b ≢ 0x02) × (b ≢ 0x03) × (b ≢ 0x04) × (b ≢ 0x0C) × (b ≢ 0x0D) × (b ≢ 0x0E) × (b ≢ 0x10) × (b ≢ 0x20) × (b ≢ 0x21) × (b ≢ 0x22) × (b ≢ 0x23) × (b ≢ 0x24)
 
 pub not_control : (opcode : ℕ) → ((i : Instr) → IsAlone i → opcode_of i ≡ opcode → ⊥) → opcode < 0x28 → IsNoControl opcode → (i : Instr) → opcode_of i ≡ opcode → ⊥
 not_control opcode alone low none (instr.Load op place) e = absurd (omega (arith, at_least (ltb (load_place op) 2) (0x28 + load_place op) (0x2A + load_place op) 0x28 (omega arith) (omega arith)))

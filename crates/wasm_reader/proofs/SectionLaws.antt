@@ -1,5 +1,5 @@
 -- Sections that are read, one after another, are spelled and in order; where one isn't read, a rule fails there.
-use Rattle.std.proofs.Common.{◌≡◌, ℕ, zero, suc, ◌≤◌, ◌<◌, leb, List, [], ◌∷◌, ◌++◌, length, Option, Some, None, Ok, Err, refl, sym, ap, subst, ◌∙◌, append_assoc, arith, ◌⊎◌, inl, inr}
+use Rattle.std.proofs.Common.{◌≡◌, ℕ, zero, suc, ◌≤◌, ◌<◌, leb, List, [], ◌∷◌, ◌++◌, length, Option, Some, None, Ok, refl, sym, ap, subst, ◌∙◌, append_assoc, arith, ◌⊎◌, inl, inr}
 use Rattle.std.specs.Prelude.{Contains}
 use Rattle.std.proofs.lemmas.Bool.{ne_eqb, leb-true}
 use Rattle.std.proofs.lemmas.List.{append-nil, length-append}
@@ -10,13 +10,10 @@ use Rattle.wasm_tree.specs.Spelled.{Each, Vector, Sized, Raw, RawSection, ids, I
 use Rattle.wasm_reader.specs.declared.fault.Fault.{Fault}
 use Rattle.wasm_reader.specs.declared.section.Found.{Found}
 use Rattle.wasm_reader.specs.Fault.{NoVector, NoneSized, NoName, OfKind, Holds, AllHold, last_id, MayFollow, NoSection}
-use Rattle.wasm_reader.specs.Reading.{◌>>=◌, at, Reader, name_at, custom_at, vector_at, filled_at, with_custom, behind_id, choice, customs_at, section_at}
-use Rattle.wasm_reader.proofs.Laws.{Taken, Spells, fills, filled-spells}
-use Rattle.wasm_reader.proofs.NumberLaws.{index-spells}
-use Rattle.wasm_reader.proofs.PartLaws.{custom-fills, name-spells}
-use Rattle.wasm_reader.proofs.FaultLaws.{Breaks, name-breaks, filled-breaks}
-use Rattle.wasm_reader.proofs.Fields.{Reads, vector-reads}
-use Rattle.wasm_reader.proofs.Ends.{Ends, step, weaker, by_ends, ends_ok, ends_err}
+use Rattle.wasm_reader.specs.Reading.{◌>>=◌, at, Reader, custom_at, vector_at, filled_at, with_custom, behind_id, choice, customs_at, section_at}
+use Rattle.wasm_reader.proofs.Ends.{Ends, with_value, step, weaker}
+use Rattle.wasm_reader.proofs.Readers.{Taken, Broken, Reads, fills}
+use Rattle.wasm_reader.proofs.Parts.{vector-reads, filled-reads, custom-fills}
 use Rattle.wasm_reader.proofs.Sections.{total, total-with, begin, each-append, InOrder-append, last_id-append, AllHold-append, CustomsAre-append, contents-before, contents-behind, passed_over, found_here, lists-by, tested, AreNext, next_id, behind-found, behind-here}
 
 -- ---- a piece of the bytes that is spelled by sections
@@ -47,9 +44,9 @@ joined {a} {b} {c} p q = record {
 }
 
 -- one section, whose contents behind its id were taken
-abbrev single : {A : Type 0} (P : A → List ℕ → Type 0) (id : ℕ) (bytes contents : List ℕ) (x : A) (rest : List ℕ) → bytes ≡ id ∷ contents → (t : Taken (λ x. Sized (P x)) contents x rest) → Holds id t.spelled.0
+abbrev single : {A : Type 0} {id : ℕ} {bytes contents : List ℕ} {x : A} {rest : List ℕ} (P : A → List ℕ → Type 0) → bytes ≡ id ∷ contents → (t : Taken (λ x. Sized (P x)) contents x rest) → Holds id t.spelled.0
     → (customs : List Custom) → CustomsAre ((record { id = id; contents = t.spelled.0 }) ∷ []) customs → Piece bytes rest
-single P id bytes contents x rest is t holds customs are = record {
+single {id = id} P is t holds customs are = record {
   raws = (record { id = id; contents = t.spelled.0 }) ∷ [];
   customs = customs;
   front = id ∷ t.front;
@@ -93,8 +90,7 @@ pub record SkipFails (bytes : List ℕ) (x : Fault) : Type 0 where
   pub back : List ℕ
   pub piece : Piece bytes (0 ∷ back)
   pub custom : AllCustom piece.raws
-  pub fails : NoneSized Custom_contents NoName x.rule x.left back
-  pub within : x.left ≤ length back
+  pub broken : Broken (NoneSized Custom_contents NoName) back x
 
 -- where no bytes are found behind an id, the first byte is another
 none-first : (id b : ℕ) (bytes more : List ℕ) → behind_id id bytes ≡ None → bytes ≡ b ∷ more → b ≡ id → ⊥
@@ -102,48 +98,32 @@ none-first id b bytes more e w is =
     let here : behind_id id bytes ≡ Some more = ap (behind_id id) (w ∙ ap (λ (x : ℕ). x ∷ more) is) ∙ behind-here id more in
     absurd (cc (here, e))
 
--- how one custom section behind its id ends
-pub custom-spells : Spells (λ x. Sized (Custom_contents x)) (filled_at custom_at)
-custom-spells = filled-spells Custom_contents custom_at index-spells custom-fills
-
-custom-breaks : Breaks (NoneSized Custom_contents NoName) (filled_at custom_at)
-unfolding custom_at
-custom-breaks = filled-breaks Custom_contents NoName custom_at taken (record { fails = λ bytes x e. (ends bytes x e).0; within = λ bytes x e. (ends bytes x e).1 }) where
-  taken : (bytes : List ℕ) (x : Custom) (rest : List ℕ) → custom_at bytes ≡ Ok (x, rest) → Taken Custom_contents bytes x rest
-  taken bytes x rest e =
-      ends_ok (λ (y : Custom × List ℕ). Taken Custom_contents bytes y.0 y.1) (λ x. Unit {0}) (custom_at bytes) (x, rest)
-      (step (λ (n : List ℕ × List ℕ). name_at bytes ≡ Ok n) (λ x. Unit {0}) _ _ (name_at bytes) _ (by_ends _ _ (name_at bytes) (λ n e. e) (λ x e. tt)) (λ x e. tt)
-      (λ n e. let t = name-spells.found bytes n.0 n.1 e in record { front = bytes; whole = sym (append-nil bytes); spelled = record { front = t.front; back = n.1; whole = t.whole; first = t.spelled; second = refl } })) e
-
-  ends : (bytes : List ℕ) (x : Fault) → custom_at bytes ≡ Err x → NoName x.rule x.left bytes × (x.left ≤ length bytes)
-  ends bytes x e =
-      ends_err (λ (y : Custom × List ℕ). Unit {0}) (λ x. NoName x.rule x.left bytes × (x.left ≤ length bytes)) (custom_at bytes) x
-      (step (λ (n : List ℕ × List ℕ). Unit {0}) (λ x. NoName x.rule x.left bytes × (x.left ≤ length bytes)) _ _ (name_at bytes) _ (by_ends _ _ (name_at bytes) (λ n e. tt) (λ x e. (name-breaks.fails bytes x e, name-breaks.within bytes x e))) (λ x e. e)
-      (λ n e. tt)) e
+-- one custom section behind its id
+pub custom-reads : Reads (λ x. Sized (Custom_contents x)) (NoneSized Custom_contents NoName) (filled_at custom_at)
+custom-reads = filled-reads custom-fills
 
 -- where no custom section begins, none is passed over
 stay : (found : Found) (bytes : List ℕ) → ((b : ℕ) (more : List ℕ) → bytes ≡ b ∷ more → b ≡ 0 → ⊥) → Skipped found bytes found bytes
 stay found bytes stops = record { piece = nothing bytes; custom = tt; all = λ cs. refl; stops = stops; same = inl refl }
 
 -- custom sections are passed over, or behind some of them one fails
-pub customs-end : (n : ℕ) (found : Found) (bytes : List ℕ) → length bytes ≤ n → Ends (λ y. Skipped found bytes y.0 y.1) (SkipFails bytes) (customs_at n found bytes)
+pub customs-ends : (n : ℕ) (found : Found) (bytes : List ℕ) → length bytes ≤ n → Ends (λ y. Skipped found bytes y.0 y.1) (SkipFails bytes) (customs_at n found bytes)
 unfolding customs_at
-customs-end zero found [] le = stay found [] (λ b more w. absurd cc)
-customs-end zero found (b ∷ bytes) le = absurd (omega arith)
-customs-end (suc n) found bytes le = by (customs-end n) (behind_id 0 bytes) refl where
+customs-ends zero found [] le = with_value (found, []) (stay found [] (λ b more w. absurd cc))
+customs-ends zero found (b ∷ bytes) le = absurd (omega arith)
+customs-ends (suc n) found bytes le = by (customs-ends n) (behind_id 0 bytes) refl where
   by : ((found : Found) (bytes : List ℕ) → length bytes ≤ n → Ends (λ y. Skipped found bytes y.0 y.1) (SkipFails bytes) (customs_at n found bytes)) → (o : Option (List ℕ)) → behind_id 0 bytes ≡ o
       → Ends (λ (y : Found × List ℕ). Skipped found bytes y.0 y.1) (SkipFails bytes) (choice o (Ok (found, bytes)) (λ contents. filled_at custom_at contents >>= λ c. customs_at n (with_custom c.0 found) c.1))
-  by so None is = stay found bytes (λ b more w z. none-first 0 b bytes more is w z)
+  by so None is = with_value (found, bytes) (stay found bytes (λ b more w z. none-first 0 b bytes more is w z))
   by so (Some contents) is =
       let first = behind-found 0 bytes contents is in
-      step (λ (y : Custom × List ℕ). Taken (λ x. Sized (Custom_contents x)) contents y.0 y.1) (λ x. NoneSized Custom_contents NoName x.rule x.left contents × (x.left ≤ length contents)) _ _ (filled_at custom_at contents) _
-      (by_ends _ _ (filled_at custom_at contents) (λ y e. custom-spells.found contents y.0 y.1 e) (λ x e. (custom-breaks.fails contents x e, custom-breaks.within contents x e)))
-      (λ x h. record { back = contents; piece = record { raws = []; customs = []; front = []; whole = first; each = refl; hold = tt; are = refl }; custom = tt; fails = h.0; within = h.1 })
+      step (filled_at custom_at contents) (custom-reads.ends contents)
+      (λ x b. record { back = contents; piece = record { raws = []; customs = []; front = []; whole = first; each = refl; hold = tt; are = refl }; custom = tt; broken = b })
       (λ y t.
-      let one : Piece bytes y.1 = single Custom_contents 0 bytes contents y.0 y.1 first t (inl (refl, (y.0, t.spelled.2))) (y.0 ∷ []) (inl (refl, t.spelled.2, refl)) in
-      weaker _ _ _ _ (customs_at n (with_custom y.0 found) y.1) (so (with_custom y.0 found) y.1 (omega (arith, ap length first, ap length t.whole, length-append t.front y.1)))
+      let one : Piece bytes y.1 = single Custom_contents first t (inl (refl, (y.0, t.spelled.2))) (y.0 ∷ []) (inl (refl, t.spelled.2, refl)) in
+      weaker (so (with_custom y.0 found) y.1 (omega (arith, ap length first, ap length t.whole, length-append t.front y.1)))
       (λ z s. record { piece = joined one s.piece; custom = (refl, s.custom); all = λ cs. s.all cs ∙ total-with found y.0 (s.piece.customs ++ cs); stops = s.stops; same = inr (contents, first) })
-      (λ x s. record { back = s.back; piece = joined one s.piece; custom = (refl, s.custom); fails = s.fails; within = s.within }))
+      (λ x s. record { back = s.back; piece = joined one s.piece; custom = (refl, s.custom); broken = s.broken }))
 
 -- ---- the sections up to an id
 
@@ -160,8 +140,7 @@ pub record Stopped (start : List ℕ) (x : Fault) : Type 0 where
   pub back : List ℕ
   pub piece : Piece start back
   pub order : InOrder 0 piece.raws
-  pub next : NoSection (last_id 0 piece.raws) x.rule x.left back
-  pub within : x.left ≤ length back
+  pub broken : Broken (NoSection (last_id 0 piece.raws)) back x
 
 -- the sections up to an id again, behind custom ones
 pub record Past (id : ℕ) (start : List ℕ) (raws : List Raw) (found : Found) (rest : List ℕ) : Type 0 where
@@ -223,9 +202,9 @@ last-single : (b : ℕ) (raw : Raw) → 0 < raw.id → last_id b (raw ∷ []) �
 last-single b raw some = rw (ne_eqb raw.id 0 (λ (e : raw.id ≡ 0). absurd (omega arith))) refl
 
 -- the section isn't there
-absent : {A : Type 0} (P : A → List ℕ → Type 0) (F : ModuleRule → ℕ → List ℕ → Type 0) (f : Reader A) (before id : ℕ) → Stage P F f before id → (start : List ℕ) (raws : List Raw) (found : Found) (rest : List ℕ) → Past before start raws found rest → behind_id id rest ≡ None
+absent : {A : Type 0} {P : A → List ℕ → Type 0} {F : ModuleRule → ℕ → List ℕ → Type 0} {f : Reader A} {before id : ℕ} → Stage P F f before id → (start : List ℕ) (raws : List Raw) (found : Found) (rest : List ℕ) → Past before start raws found rest → behind_id id rest ≡ None
     → Done P before id start raws [] found rest
-absent P F f before id s start raws found rest o is =
+absent {P = P} {before = before} {id} s start raws found rest o is =
     let u = o.upto in
     record {
       upto = record {
@@ -247,13 +226,13 @@ absent P F f before id s start raws found rest o is =
           omega arith
 
 -- the section is there, and its contents were taken
-present : {A : Type 0} (P : A → List ℕ → Type 0) (F : ModuleRule → ℕ → List ℕ → Type 0) (f : Reader A) (before id : ℕ) → Stage P F f before id → (start : List ℕ) (raws : List Raw) (found : Found) (mid contents : List ℕ) (xs : List A) (rest : List ℕ) → Past before start raws found mid → mid ≡ id ∷ contents
+present : {A : Type 0} {P : A → List ℕ → Type 0} {F : ModuleRule → ℕ → List ℕ → Type 0} {f : Reader A} {before id : ℕ} → Stage P F f before id → (start : List ℕ) (raws : List Raw) (found : Found) (mid contents : List ℕ) (xs : List A) (rest : List ℕ) → Past before start raws found mid → mid ≡ id ∷ contents
     → Taken (λ x. Sized (Vector P x)) contents xs rest → Done P before id start raws xs found rest
-present {A} P F f before id s start raws found mid contents xs rest o is t =
+present {P = P} {id = id} s start raws found mid contents xs rest o is t =
     let u = o.upto in
     let some : 0 < id = omega (arith, s.lt) in
     let raw : Raw = record { id = id; contents = t.spelled.0 } in
-    let one : Piece mid rest = single (Vector P) id mid contents xs rest is t (s.kind (λ A P F. (x : A) × P x t.spelled.0) (xs, t.spelled.2)) [] (some, refl) in
+    let one : Piece mid rest = single (Vector P) is t (s.kind (λ A P F. (x : A) × P x t.spelled.0) (xs, t.spelled.2)) [] (some, refl) in
     let last : last_id 0 (u.piece.raws ++ raw ∷ []) ≡ id = last_id-append 0 u.piece.raws (raw ∷ []) ∙ last-single (last_id 0 u.piece.raws) raw some in
     let away : (j : ℕ) → (id ≡ j → ⊥) → contents_of j (raw ∷ []) ≡ None = λ j e. passed_over j raw [] e in
     record {
@@ -270,48 +249,43 @@ present {A} P F f before id s start raws found mid contents xs rest o is t =
     }
 
 -- a custom section fails behind those up to an id
-pub skip-stopped : (id : ℕ) (start bytes : List ℕ) (found : Found) (x : Fault) → Upto id start found bytes → SkipFails bytes x → Stopped start x
-skip-stopped id start bytes found x u s = record {
+pub skip-stopped : {id : ℕ} {start bytes : List ℕ} {found : Found} {x : Fault} → Upto id start found bytes → SkipFails bytes x → Stopped start x
+skip-stopped u s = record {
   back = 0 ∷ s.back;
   piece = joined u.piece s.piece;
   order = InOrder-append 0 u.piece.raws s.piece.raws u.order (custom-order s.piece.raws (last_id 0 u.piece.raws) s.custom);
-  next = inr (inl refl, inl (refl, s.fails));
-  within = omega (arith, s.within);
+  broken = record { fails = inr (inl refl, inl (refl, s.broken.fails)); within = omega (arith, s.broken.within) };
 }
 
 -- a stage is done, or a section fails
-pub section-ends : {A : Type 0} (P : A → List ℕ → Type 0) (F : ModuleRule → ℕ → List ℕ → Type 0) (f : Reader A) (before id : ℕ) → Stage P F f before id → (start : List ℕ) (found : Found) (bytes : List ℕ) (u : Upto before start found bytes)
+pub section-ends : {A : Type 0} {P : A → List ℕ → Type 0} {F : ModuleRule → ℕ → List ℕ → Type 0} {f : Reader A} {before id : ℕ} → Stage P F f before id → (start : List ℕ) (found : Found) (bytes : List ℕ) (u : Upto before start found bytes)
     → Ends (λ y. Done P before id start u.piece.raws y.0.0 y.0.1 y.1) (Stopped start) (section_at f id found bytes)
 unfolding section_at
-section-ends {A} P F f before id s start found bytes u =
-    step _ _ _ _ (customs_at (length bytes) found bytes) _ (customs-end (length bytes) found bytes (omega arith)) (λ x h. skip-stopped before start bytes found x u h)
-    (λ y k. by y.0 y.1 (past before start bytes y.1 found y.0 u k) (behind_id id y.1) refl) where
-      rv : Reads (Vector P) (NoVector P F) (vector_at f)
-      rv = vector-reads P F f s.reads
-
+section-ends {A} {P} {f = f} {before} {id} s start found bytes u =
+    step (customs_at (length bytes) found bytes) (customs-ends (length bytes) found bytes (omega arith)) (λ x h. skip-stopped u h) (λ y k. by y.0 y.1 (past before start bytes y.1 found y.0 u k) (behind_id id y.1) refl) where
       by : (g : Found) (mid : List ℕ) → Past before start u.piece.raws g mid → (o : Option (List ℕ)) → behind_id id mid ≡ o
           → Ends (λ (y : (List A × Found) × List ℕ). Done P before id start u.piece.raws y.0.0 y.0.1 y.1) (Stopped start) (choice o (Ok (([], g), mid)) (λ contents. filled_at (vector_at f) contents >>= λ x. Ok ((x.0, g), x.1)))
-      by g mid o None is = absent P F f before id s start u.piece.raws g mid o is
+      by g mid o None is = with_value (([], g), mid) (absent s start u.piece.raws g mid o is)
       by g mid o (Some contents) is =
           let first = behind-found id mid contents is in
-          let sized = filled-breaks (Vector P) (NoVector P F) (vector_at f) (λ bytes x rest e. rv.spells.found bytes x rest e) rv.breaks in
-          step (λ (y : List A × List ℕ). Taken (λ x. Sized (Vector P x)) contents y.0 y.1) (λ x. NoneSized (Vector P) (NoVector P F) x.rule x.left contents × (x.left ≤ length contents)) _ _ (filled_at (vector_at f) contents) _
-          (by_ends _ _ (filled_at (vector_at f) contents) (λ y e. (filled-spells (Vector P) (vector_at f) index-spells (fills (Vector P) (vector_at f) rv.spells)).found contents y.0 y.1 e) (λ x e. (sized.fails contents x e, sized.within contents x e)))
-          (λ x h. record {
+          step (filled_at (vector_at f) contents) ((filled-reads (fills (vector-reads s.reads))).ends contents)
+          (λ x b. record {
             back = mid;
             piece = o.upto.piece;
             order = o.upto.order;
-            next = subst (NoSection (last_id 0 o.upto.piece.raws) x.rule x.left) (sym first) (inr (inr (omega (arith, o.upto.low, s.lt), s.known), s.kind (λ A P F. NoneSized P F x.rule x.left contents) h.0));
-            within = omega (arith, h.1, ap length first);
+            broken = record {
+              fails = subst (NoSection (last_id 0 o.upto.piece.raws) x.rule x.left) (sym first) (inr (inr (omega (arith, o.upto.low, s.lt), s.known), s.kind (λ A P F. NoneSized P F x.rule x.left contents) b.fails));
+              within = omega (arith, b.within, ap length first);
+            };
           })
-          (λ y t. present P F f before id s start u.piece.raws g mid contents y.0 y.1 o first t)
+          (λ y t. with_value ((y.0, g), y.1) (present s start u.piece.raws g mid contents y.0 y.1 o first t))
 
 -- behind the last section and custom ones, an id is left that may not follow
 pub misplaced : (start bytes rest : List ℕ) (found after : Found) → Upto 11 start found bytes → Skipped found bytes after rest → (length rest ≡ 0 → ⊥) → Stopped start (at rule.Section (length rest))
 misplaced start bytes [] found after u s some = absurd (some refl)
 misplaced start bytes (b ∷ more) found after u s some =
     let o = past 11 start bytes (b ∷ more) found after u s in
-    record { back = b ∷ more; piece = o.upto.piece; order = o.upto.order; next = inl (refl, refl, none o); within = omega arith } where
+    record { back = b ∷ more; piece = o.upto.piece; order = o.upto.order; broken = record { fails = inl (refl, refl, none o); within = omega arith } } where
       none : (o : Past 11 start u.piece.raws after (b ∷ more)) → MayFollow (last_id 0 o.upto.piece.raws) b → ⊥
       none o (inl z) = s.stops b more refl z
       none o (inr h) =

@@ -1,6 +1,6 @@
 -- Lists of sections: their order, what they list, and the custom ones among them.
 use Rattle.std.proofs.Common.{◌≡◌, ℕ, zero, suc, ◌≤◌, ◌<◌, Bool, true, false, not, cond, eqb, leb, eq-eqb, List, [], ◌∷◌, ◌++◌, length, get_or, Option, Some, None, refl, sym, ap, subst, ◌∙◌, append_assoc, arith, ◌⊎◌, inl, inr}
-use Rattle.std.specs.Prelude.{◌&&◌, ◌||◌, Contains, filter, MatchOption}
+use Rattle.std.specs.Prelude.{◌||◌, Contains, filter, MatchOption}
 use Rattle.std.specs.List.{list_all}
 use Rattle.std.proofs.lemmas.Bool.{eqb-true, ne_eqb, leb-true}
 use Rattle.std.proofs.lemmas.List.{append-nil}
@@ -9,7 +9,7 @@ use Rattle.wasm_tree.specs.Spelled.{Each, Text, Vector, Raw, RawSection, ids, In
 use Rattle.wasm_reader.specs.declared.section.Found.{Found}
 use Rattle.wasm_reader.specs.Fault.{AllHold, last_id}
 use Rattle.wasm_reader.specs.Reading.{with_custom, behind_id}
-use Rattle.wasm_reader.proofs.Laws.{chosen}
+use Rattle.wasm_reader.proofs.Readers.{both_true, begins_with}
 
 -- ---- the custom sections found so far, and those to come
 
@@ -117,12 +117,6 @@ lists-by P id raws xs o e h = subst (λ (o : Option (List ℕ)). MatchOption o (
 pub lists-along : {A : Type 0} (P : A → List ℕ → Type 0) (id : ℕ) (raws more : List Raw) (xs : List A) → contents_of id raws ≡ contents_of id more → Lists P id more xs → Lists P id raws xs
 lists-along P id raws more xs e h = lists-by P id raws xs (contents_of id more) e h
 
-both : (p : ℕ → Bool) (y : ℕ) (ys : List ℕ) → list_all p (y ∷ ys) ≡ true → (p y ≡ true) × (list_all p ys ≡ true)
-both p y ys e = parts (p y) (list_all p ys) e where
-  parts : (a b : Bool) → (a && b) ≡ true → (a ≡ true) × (b ≡ true)
-  parts true b e = (refl, e)
-  parts false b e = absurd cc
-
 or_true : (a b : Bool) → (a || b) ≡ true → (a ≡ true) ⊎ (b ≡ true)
 or_true true b e = inl refl
 or_true false b e = inr e
@@ -130,8 +124,8 @@ or_true false b e = inr e
 -- the ids of a list, by a test of each
 pub tested : (p : ℕ → Bool) (xs : List ℕ) (k x : ℕ) → list_all p xs ≡ true → k < length xs → get_or xs k x ≡ x → p x ≡ true
 tested p [] k x e lt is = absurd (omega arith)
-tested p (y ∷ ys) zero x e lt is = subst (λ (z : ℕ). p z ≡ true) is (both p y ys e).0
-tested p (y ∷ ys) (suc k) x e lt is = tested p ys k x (both p y ys e).1 (omega arith) is
+tested p (y ∷ ys) zero x e lt is = subst (λ (z : ℕ). p z ≡ true) is (both_true (p y) (list_all p ys) e).0
+tested p (y ∷ ys) (suc k) x e lt is = tested p ys k x (both_true (p y) (list_all p ys) e).1 (omega arith) is
 
 -- no id of the subset lies between these
 abbrev pub AreNext : ℕ → ℕ → Type 0
@@ -151,11 +145,10 @@ next_id b id x e c lt =
 pub behind-found : (id : ℕ) (bytes contents : List ℕ) → behind_id id bytes ≡ Some contents → bytes ≡ id ∷ contents
 unfolding behind_id
 behind-found id [] contents e = absurd cc
-behind-found id (b ∷ bytes) contents e =
-    elim (chosen (eqb b id) (Some bytes) None (Some contents) e) [
-      | inl h ↦ cc (eqb-true b id h.0, h.1)
-      | inr h ↦ absurd (cc h.1)
-    ]
+behind-found id (b ∷ bytes) contents e = by (eqb b id) refl e where
+  by : (t : Bool) → eqb b id ≡ t → cond t (Some bytes) None ≡ Some contents → b ∷ bytes ≡ id ∷ contents
+  by true p e = cc (eqb-true b id p)
+  by false p e = absurd cc
 
 -- behind the id that is the first byte, the others stand
 pub behind-here : (id : ℕ) (contents : List ℕ) → behind_id id (id ∷ contents) ≡ Some contents
@@ -174,4 +167,4 @@ behind-none id = refl
 
 -- a section, as its id and what stands behind it
 pub section_is : (raw : Raw) (bytes : List ℕ) → RawSection raw bytes → (text : List ℕ) × (bytes ≡ raw.id ∷ text) × Text raw.contents text
-section_is raw bytes h = (h.back, h.whole ∙ ap (λ (l : List ℕ). l ++ h.back) h.first, h.second)
+section_is raw bytes h = (h.back, begins_with h, h.second)

@@ -59,23 +59,43 @@ byte_at (b ∷ rest) = Ok (b, rest)
 
 -- ---- numbers
 
--- a number of at most this many bits, which began where start bytes were left
-unfoldable pub unsigned_from : ℕ → ℕ → Reader ℕ
-unsigned_from start bits [] = Err (at rule.Size 0)
-unsigned_from start bits (b ∷ rest) =
-    if nat_lt b 128 then (if nat_lt b (2 ^ bits) then Ok (b, rest) else Err (at rule.Number start))
-    else (if nat_lt 7 bits && nat_lt b 256 then (unsigned_from start (bits - 7) rest >>= λ high. Ok ((b - 128) + 128 * high.0, high.1)) else Err (at rule.Number start))
+abbrev pub or_fault : {A : Type 0} → Fault → Option A → Result A Fault
+or_fault f None = Err f
+or_fault f (Some x) = Ok x
+
+-- A number of at most this many bits, which began where start bytes were left: what its last byte stands for, if
+-- that fits, and what a byte before stands for with the bits above it.
+unfoldable pub number_from : {A : Type 0} → (ℕ → ℕ → Option A) → (ℕ → A → A) → ℕ → ℕ → Reader A
+number_from last more start bits [] = Err (at rule.Size 0)
+number_from last more start bits (b ∷ rest) =
+    if nat_lt b 128 then (or_fault (at rule.Number start) (last bits b) >>= λ z. Ok (z, rest))
+    else (if nat_lt 7 bits && nat_lt b 256 then (number_from last more start (bits - 7) rest >>= λ high. Ok (more b high.0, high.1)) else Err (at rule.Number start))
+
+abbrev pub last_unsigned : ℕ → ℕ → Option ℕ
+last_unsigned bits b = if nat_lt b (2 ^ bits) then Some b else None
+
+abbrev pub more_unsigned : ℕ → ℕ → ℕ
+more_unsigned b high = (b - 128) + 128 * high
+
+abbrev pub unsigned_from : ℕ → ℕ → Reader ℕ
+unsigned_from = number_from last_unsigned more_unsigned
 
 unfoldable pub index_at : Reader ℕ
 index_at bytes = unsigned_from (length bytes) 32 bytes
 
+-- a byte below 128 as a number of seven bits with a sign
+abbrev pub signed_byte : ℕ → ℤ
+signed_byte b = if nat_lt b 64 then pos b else pos b -ℤ pos 128
+
 -- the same with a sign
-unfoldable pub signed_from : ℕ → ℕ → Reader ℤ
-signed_from start bits [] = Err (at rule.Size 0)
-signed_from start bits (b ∷ rest) =
-    if nat_lt b 64 then (if nat_lt b (2 ^ (bits - 1)) then Ok (pos b, rest) else Err (at rule.Number start))
-    else (if nat_lt b 128 then (if nat_lt (127 - b) (2 ^ (bits - 1)) then Ok (pos b -ℤ pos 128, rest) else Err (at rule.Number start))
-    else (if nat_lt 7 bits && nat_lt b 256 then (signed_from start (bits - 7) rest >>= λ high. Ok (pos (b - 128) +ℤ (pos 128 *ℤ high.0), high.1)) else Err (at rule.Number start)))
+abbrev pub last_signed : ℕ → ℕ → Option ℤ
+last_signed bits b = if nat_lt (if nat_lt b 64 then b else 127 - b) (2 ^ (bits - 1)) then Some (signed_byte b) else None
+
+abbrev pub more_signed : ℕ → ℤ → ℤ
+more_signed b high = pos (b - 128) +ℤ (pos 128 *ℤ high)
+
+abbrev pub signed_from : ℕ → ℕ → Reader ℤ
+signed_from = number_from last_signed more_signed
 
 unfoldable pub signed_at : ℕ → Reader ℤ
 signed_at bits bytes = signed_from (length bytes) bits bytes
@@ -295,19 +315,22 @@ opens (b ∷ bytes) = nat_le 0x02 b && nat_le b 0x04
 unfoldable pub room_at : List Bool → List ℕ → Result Unit Fault
 room_at arms bytes = if nat_lt most_open (length arms) && opens bytes then Err (at rule.Limit (length bytes)) else Ok tt
 
-abbrev pub or_fault : {A : Type 0} → Fault → Option A → Result A Fault
-or_fault f None = Err f
-or_fault f (Some x) = Ok x
-
 -- what is open after an instruction that began where start bytes were left
 abbrev pub follow_at : ℕ → List Bool → Instr → Result (List Bool) Fault
 follow_at start arms i = or_fault (at rule.Opcode start) (after_instruction arms i)
 
+-- the next instruction, and what is open after it
+unfoldable pub next_at : List Bool → Reader (Instr × List Bool)
+next_at arms bytes = do
+  _ ← room_at arms bytes
+  i ← instruction_at bytes
+  next ← follow_at (length bytes) arms i.0
+  Ok ((i.0, next), i.1)
+
 -- at most so many instructions, up to the end of the function
 unfoldable pub code_from : ℕ → List Bool → Reader (List Instr)
 code_from zero arms bytes = Err (at rule.Size 0)
-code_from (suc n) arms bytes = room_at arms bytes >>= λ _. instruction_at bytes >>= λ i. follow_at (length bytes) arms i.0 >>= λ next.
-    if length next == 0 then Ok (i.0 ∷ [], i.1) else (code_from n next i.1 >>= λ more. Ok (i.0 ∷ more.0, more.1))
+code_from (suc n) arms bytes = next_at arms bytes >>= λ i. if length i.0.1 == 0 then Ok (i.0.0 ∷ [], i.1) else (code_from n i.0.1 i.1 >>= λ more. Ok (i.0.0 ∷ more.0, more.1))
 
 unfoldable pub expression_at : Reader (List Instr)
 expression_at bytes = code_from (length bytes) at_begin bytes

@@ -1,5 +1,5 @@
 ghost use Rattle.std.specs.Prelude.{◌≡◌, length};
-ghost use Rattle.wasm_reader.specs.Reading.{Gives, opens as opens_at, room_at, follow_at, expression_at, body_at, filled_at};
+ghost use Rattle.wasm_reader.specs.Reading.{Gives, opens as opens_at, room_at, next_at, expression_at, body_at, filled_at};
 
 use crate::cursor::Cursor;
 use crate::decode::{Decode, Filling, filled};
@@ -32,12 +32,20 @@ fn room(control: &ControlStack, cursor: &Cursor<'_>) -> Result<(), ReadFail>
     Ok(())
 }
 
-/// Follows the instruction that begins where `start` bytes are left, and isn't too deep.
-fn follow(control: &mut ControlStack, instr: &Instr, start: usize) -> Result<(), ReadFail>
-    ensures { Gives (λ _. control.new) result (follow_at start control.old instr.now) }
+/// The next instruction, which isn't too deep and may stand there.
+#[tactic(auto, unfolding(crate::specs::Reading::next_at))]
+fn next(
+    alloc: Global,
+    control: &mut ControlStack,
+    cursor: &mut Cursor<'_>,
+) -> Result<Instr, ReadFail>
+    ensures { Gives (λ i. ((i, control.new), cursor.new)) result (next_at control.old cursor.old) }
 {
-    if control.follow(instr) {
-        Ok(())
+    room(control, cursor)?;
+    let start = cursor.left();
+    let instr = instr(alloc, cursor)?;
+    if control.follow(&instr) {
+        Ok(instr)
     } else {
         Err(at(ModuleRule::Opcode, start))
     }
@@ -50,10 +58,7 @@ pub fn expression(alloc: Global, cursor: &mut Cursor<'_>) -> Result<Items<Instr>
     let mut control = ControlStack::new();
     let mut code = Items::new(alloc);
     for _ in 0..cursor.left() {
-        let start = cursor.left();
-        room(&control, cursor)?;
-        let instr = instr(alloc, cursor)?;
-        follow(&mut control, &instr, start)?;
+        let instr = next(alloc, &mut control, cursor)?;
         code.push(instr)?;
         if control.is_ended() {
             return Ok(code);

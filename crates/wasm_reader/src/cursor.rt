@@ -1,6 +1,7 @@
-ghost use Rattle.std.specs.Prelude.{◌≡◌, ◌<◌, ◌≤◌, ◌^◌, ◌-◌, [], Some, None, IfOk, length, take, drop, nat_lt, pos, ◌-ℤ◌, ◌≤ℤ◌, ◌<ℤ◌};
-ghost use Rattle.wasm_reader.specs.Reading.{Gives, byte_at, unsigned_from, index_at, signed_from, signed_at, fixed_at, take_at, text_at, behind_id};
+ghost use Rattle.std.specs.Prelude.{◌≡◌, ◌<◌, ◌≤◌, ◌^◌, ◌-◌, [], Some, None, IfOk, IfSome, IfNone, ◌∷◌, length, take, drop, nat_lt, pos, ◌-ℤ◌, ◌≤ℤ◌, ◌<ℤ◌};
+ghost use Rattle.wasm_reader.specs.Reading.{Gives, at as fault_at, or_fault, byte_at, last_unsigned as last_unsigned_of, unsigned_from, index_at, signed_byte as signed_byte_of, last_signed as last_signed_of, signed_from, signed_at, fixed_at, take_at, text_at, behind_id};
 ghost use Rattle.std.specs.Bool.{OnTrue, OnFalse};
+ghost use Rattle.wasm_tree.specs.declared.failure.ModuleRule.TheVariants.{Number as number};
 
 use crate::fault::{ReadFail, at};
 use std::marker::Model;
@@ -27,6 +28,49 @@ fn fits(low: u8, bits: u32) -> bool
     ensures { result ≡ nat_lt low (2 ^ bits) }
 {
     bits > 6 || low < 1 << bits
+}
+
+/// What the last byte of an unsigned number of so many bits stands for.
+fn last_unsigned(start: usize, bits: u32, low: u8) -> Result<u64, ReadFail>
+    requires { low < 128 }
+    ensures value { Gives (λ x. x) result (or_fault (fault_at number start) (last_unsigned_of bits low)) }
+    ensures small { IfOk result (λ x. x < 2 ^ bits) }
+{
+    if fits(low, bits) {
+        Ok(low as u64)
+    } else {
+        Err(at(ModuleRule::Number, start))
+    }
+}
+
+/// A byte below 128 as a signed number of seven bits.
+fn signed_byte(byte: u8) -> i8
+    requires { byte < 128 }
+    ensures value { result ≡ signed_byte_of byte }
+    ensures low { (pos 0 -ℤ pos 64) ≤ℤ result }
+    ensures high { result <ℤ pos 64 }
+{
+    if byte < 64 {
+        byte as i8
+    } else {
+        (byte as i16 - 128) as i8
+    }
+}
+
+/// What the last byte of a signed number of so many bits stands for.
+fn last_signed(start: usize, bits: u32, low: u8) -> Result<i64, ReadFail>
+    requires some { 0 < bits }
+    requires byte { low < 128 }
+    ensures value { Gives (λ x. x) result (or_fault (fault_at number start) (last_signed_of bits low)) }
+    ensures low { IfOk result (λ x. (pos 0 -ℤ pos (2 ^ (bits - 1))) ≤ℤ x) }
+    ensures high { IfOk result (λ x. x <ℤ pos (2 ^ (bits - 1))) }
+{
+    let size = if low < 64 { low } else { 127 - low };
+    if fits(size, bits - 1) {
+        Ok(signed_byte(low) as i64)
+    } else {
+        Err(at(ModuleRule::Number, start))
+    }
 }
 
 impl<'a> Cursor<'a> {
@@ -103,6 +147,20 @@ impl<'a> Cursor<'a> {
         Err(at(ModuleRule::Opcode, start))
     }
 
+    /// Takes the next byte, if it is a number of its own, below 128. Most numbers are.
+    fn short(&mut self) -> Option<u8>
+        ensures taken { IfSome result (λ b. (b < 128) × (self.old ≡ b ∷ self.new)) }
+        ensures other { IfNone result (self.new ≡ self.old) }
+    {
+        match self.bytes.split_first() {
+            Some((first, rest)) if *first < 128 => {
+                self.bytes = rest;
+                Some(*first)
+            }
+            _ => None,
+        }
+    }
+
     /// A number without a sign, of at most this many bits, which begins where `start` bytes are left (Core
     /// Specification 1.0, 5.2.2). It calls itself for each further byte, ten times at most.
     fn unsigned(&mut self, start: usize, bits: u32) -> Result<u64, ReadFail>
@@ -112,10 +170,7 @@ impl<'a> Cursor<'a> {
     {
         let low = self.byte()?;
         if low < 128 {
-            if fits(low, bits) {
-                return Ok(low as u64);
-            }
-            return Err(at(ModuleRule::Number, start));
+            return last_unsigned(start, bits, low);
         }
         if bits <= 7 {
             return Err(at(ModuleRule::Number, start));
@@ -129,6 +184,9 @@ impl<'a> Cursor<'a> {
     pub fn index(&mut self) -> Result<u32, ReadFail>
         ensures { Gives (λ x. (x, self.new)) result (index_at self.old) }
     {
+        if let Some(value) = self.short() {
+            return Ok(value as u32);
+        }
         let value = self.unsigned(self.left(), 32)?;
         Ok(value as u32)
     }
@@ -142,17 +200,8 @@ impl<'a> Cursor<'a> {
         ensures high { IfOk result (λ x. x <ℤ pos (2 ^ (bits - 1))) }
     {
         let low = self.byte()?;
-        if low < 64 {
-            if fits(low, bits - 1) {
-                return Ok(low as i64);
-            }
-            return Err(at(ModuleRule::Number, start));
-        }
         if low < 128 {
-            if fits(127 - low, bits - 1) {
-                return Ok(low as i64 - 128);
-            }
-            return Err(at(ModuleRule::Number, start));
+            return last_signed(start, bits, low);
         }
         if bits <= 7 {
             return Err(at(ModuleRule::Number, start));
@@ -166,6 +215,9 @@ impl<'a> Cursor<'a> {
     pub fn signed32(&mut self) -> Result<i32, ReadFail>
         ensures { Gives (λ x. (x, self.new)) result (signed_at 32 self.old) }
     {
+        if let Some(byte) = self.short() {
+            return Ok(signed_byte(byte) as i32);
+        }
         let value = self.signed(self.left(), 32)?;
         Ok(value as i32)
     }
@@ -175,6 +227,9 @@ impl<'a> Cursor<'a> {
     pub fn signed64(&mut self) -> Result<i64, ReadFail>
         ensures { Gives (λ x. (x, self.new)) result (signed_at 64 self.old) }
     {
+        if let Some(byte) = self.short() {
+            return Ok(signed_byte(byte) as i64);
+        }
         self.signed(self.left(), 64)
     }
 

@@ -27,10 +27,10 @@ impl Decode for ValType {
     #[tactic(auto, unfolding(crate::specs::Reading::type_at))]
     fn read(_alloc: Global, cursor: &mut Cursor<'_>) -> Result<ValType, ReadFail> {
         let start = cursor.left();
-        match cursor.byte()? {
-            0x7F => Ok(ValType::I32),
-            0x7E => Ok(ValType::I64),
-            _ => Err(at(ModuleRule::Opcode, start)),
+        let byte = cursor.byte()?;
+        match ValType::of_byte(byte) {
+            Some(ty) => Ok(ty),
+            None => Err(at(ModuleRule::Opcode, start)),
         }
     }
 }

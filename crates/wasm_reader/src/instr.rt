@@ -18,11 +18,13 @@ fn block_type(cursor: &mut Cursor<'_>) -> Result<Option<ValType>, ReadFail>
     ensures { Gives (λ x. (x, cursor.new)) result (block_type_at cursor.old) }
 {
     let start = cursor.left();
-    match cursor.byte()? {
-        0x40 => Ok(None),
-        0x7F => Ok(Some(ValType::I32)),
-        0x7E => Ok(Some(ValType::I64)),
-        _ => Err(at(ModuleRule::Opcode, start)),
+    let byte = cursor.byte()?;
+    if byte == 0x40 {
+        return Ok(None);
+    }
+    match ValType::of_byte(byte) {
+        Some(ty) => Ok(Some(ty)),
+        None => Err(at(ModuleRule::Opcode, start)),
     }
 }
 

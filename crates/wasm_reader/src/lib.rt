@@ -4,7 +4,8 @@
 //! reader is proved equal to a reading function on lists (`specs/Reading`), and laws about these functions
 //! tie them to both definitions. No list is reserved by a count that the bytes state, a function's locals and
 //! open blocks are counted, without recursion, and refused past their limits before anything of that size is
-//! made, and each byte is looked at once, but for names, which are tested for UTF-8 first, and what opens a block.
+//! made, and no byte is looked at more than twice: the text of a name, which is tested for UTF-8 first, what opens
+//! a block, and the first byte of a longer number.
 #![tactic(auto)]
 
 mod code;
@@ -20,6 +21,3 @@ mod reader;
 mod section;
 
 pub use reader::{read_module, spelled_once};
-
-#[cfg(test)]
-mod tests;

@@ -25,6 +25,3 @@ pub use description::write_section;
 pub use laws::{spelled_is_writable, spelling_is_shortest};
 pub use writable::is_writable;
 pub use writing::write_module;
-
-#[cfg(test)]
-mod tests;

@@ -1,0 +1,21 @@
+pub mod Closing
+pub mod Comments
+pub mod Covering
+pub mod Cutting
+pub mod Digits
+pub mod Fitting
+pub mod Items
+pub mod Literals
+pub mod Longest
+pub mod Numbers
+pub mod Places
+pub mod Quotes
+mod Rows
+pub mod Runs
+pub mod Signs
+pub mod Spanning
+pub mod Texts
+pub mod Total
+pub mod Unique
+pub mod Values
+pub mod Words

@@ -1,0 +1,9 @@
+use Rattle.std.proofs.Common.{◌≡◌, ◌<◌, ◌^◌, drop}
+use Rattle.std.specs.Str.Parse.{digits_value, digits_value_after}
+use Rattle.cm_lexer.proofs.number.value.Given as goal
+
+abbrev pub invariant-loop-digit : goal.invariant-loop-digit
+invariant-loop-digit l = record {
+  value : digits_value_after l.radix l.value (drop l.digit-index l.digits) ≡ digits_value l.radix l.digits;
+  small : l.value < 2 ^ 64;
+}

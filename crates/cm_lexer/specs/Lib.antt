@@ -1,0 +1,4 @@
+pub mod Answer
+pub mod Found
+pub mod Moving
+pub mod Scan

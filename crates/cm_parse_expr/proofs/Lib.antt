@@ -1,0 +1,7 @@
+pub mod Reach
+pub mod Turns
+pub mod Next
+pub mod Complete
+pub mod Sound
+pub mod Faults
+pub mod Types

@@ -1,0 +1,2 @@
+//! Expressions and types.
+#![tactic(auto)]

@@ -1,0 +1,5 @@
+pub mod Words
+pub mod Simples
+pub mod Stmts
+pub mod Members
+pub mod Files

@@ -1,0 +1,5 @@
+pub mod Loops
+pub mod Inverses
+pub mod Locality
+pub mod Parts
+pub mod Turns

@@ -1,0 +1,3 @@
+pub mod Parsers
+pub mod Lists
+pub mod Local

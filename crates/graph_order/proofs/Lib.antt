@@ -1,0 +1,4 @@
+pub mod Between
+pub mod Placing
+pub mod Cycles
+pub mod Unique

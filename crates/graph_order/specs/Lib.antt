@@ -1,0 +1,4 @@
+pub mod Before
+pub mod Order
+pub mod Cycle
+pub mod Edges

@@ -1,0 +1,4 @@
+pub mod Sources
+pub mod Summing
+pub mod Passes
+pub mod Fitting

@@ -1,0 +1,4 @@
+pub mod Rings
+pub mod Straight
+pub mod Code
+pub mod Promises

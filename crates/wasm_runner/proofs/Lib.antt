@@ -1,0 +1,11 @@
+pub mod Places
+pub mod Made
+pub mod Typing
+pub mod Holding
+pub mod Going
+pub mod Simple
+pub mod Variables
+pub mod Data
+pub mod Control
+pub mod Blocks
+pub mod Running

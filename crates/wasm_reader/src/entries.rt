@@ -4,7 +4,7 @@ ghost use Rattle.wasm_reader.specs.Reading.{Gives, index_at, type_at, function_t
 use crate::cursor::Cursor;
 use crate::decode::{Decode, Filling};
 use crate::fault::{ReadFail, at};
-use crate::name::name;
+use crate::name::read_name;
 use cm_base::Items;
 use std::alloc::Global;
 use wasm_tree::{
@@ -85,8 +85,8 @@ impl Decode for Import {
 
     #[tactic(auto, unfolding(crate::specs::Reading::import_at))]
     fn read(alloc: Global, cursor: &mut Cursor<'_>) -> Result<Import, ReadFail> {
-        let module = name(alloc, cursor)?;
-        let name = name(alloc, cursor)?;
+        let module = read_name(alloc, cursor)?;
+        let name = read_name(alloc, cursor)?;
         let kind = import_kind(alloc, cursor)?;
         Ok(Import { module, name, kind })
     }
@@ -109,7 +109,7 @@ impl Decode for ExportEntry {
 
     #[tactic(auto, unfolding(crate::specs::Reading::export_at))]
     fn read(alloc: Global, cursor: &mut Cursor<'_>) -> Result<ExportEntry, ReadFail> {
-        let name = name(alloc, cursor)?;
+        let name = read_name(alloc, cursor)?;
         let kind = export_kind(cursor)?;
         Ok(ExportEntry { name, kind })
     }

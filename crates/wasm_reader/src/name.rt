@@ -9,7 +9,7 @@ use wasm_tree::ModuleRule;
 
 /// A length, and as many bytes, which are UTF-8 (Core Specification 1.0, 5.2.4).
 #[tactic(auto, unfolding(crate::specs::Reading::name_at, crate::specs::Reading::utf8_at))]
-pub fn name(alloc: Global, cursor: &mut Cursor<'_>) -> Result<Name, ReadFail>
+pub fn read_name(alloc: Global, cursor: &mut Cursor<'_>) -> Result<Name, ReadFail>
     ensures { Gives (λ x. (x, cursor.new)) result (name_at cursor.old) }
 {
     let length = cursor.index()?;

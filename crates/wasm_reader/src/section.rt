@@ -4,7 +4,7 @@ ghost use Rattle.wasm_reader.specs.Reading.{Gives, custom_at, with_custom, custo
 use crate::cursor::Cursor;
 use crate::decode::{Decode, Filling, filled};
 use crate::fault::ReadFail;
-use crate::name::name;
+use crate::name::read_name;
 use cm_base::Items;
 use std::alloc::Global;
 use wasm_tree::{CUSTOM_ID, Custom, Listed, is_cmajor};
@@ -22,7 +22,7 @@ impl Filling for Custom {
 
     #[tactic(auto, unfolding(crate::specs::Reading::custom_at))]
     fn fill(alloc: Global, cursor: &mut Cursor<'_>) -> Result<Custom, ReadFail> {
-        let name = name(alloc, cursor)?;
+        let name = read_name(alloc, cursor)?;
         let bytes = Items::from_slice(alloc, cursor.take_all())?;
         Ok(Custom { name, bytes })
     }

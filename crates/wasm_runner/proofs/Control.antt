@@ -1,60 +1,37 @@
 -- Blocks, their ends, and branches.
-use Rattle.std.proofs.Common.{◌≡◌, ℕ, zero, suc, ◌+◌, ◌-◌, ◌/◌, ◌<◌, ◌≤◌, ◌^◌, List, [], ◌∷◌, ◌++◌, length, take, drop, Option, Some, None, Bool, true, false, refl, sym, ap, ◌∙◌, subst, arith, append_assoc, length-append, length-drop}
-use Rattle.std.specs.Prelude.{slice_get, slice_set, slice_index, reverse, map, nat_le, nat_lt, ◌==◌, if◌then◌else◌, ℤ}
-use Rattle.std.specs.Int.{w32, w64, cast_unsigned}
+use Rattle.std.proofs.Common.{◌≡◌, ℕ, zero, suc, ◌+◌, ◌-◌, ◌<◌, ◌≤◌, List, [], ◌∷◌, ◌++◌, length, take, drop, Some, refl, sym, ap, ◌∙◌, subst, arith, append_assoc, length-append, length-drop}
+use Rattle.std.specs.Prelude.{slice_get, slice_set, slice_index, reverse, map}
 use Rattle.std.proofs.lemmas.List.{length-set}
 use Rattle.wasm_tree.specs.declared.module.ValType.{ValType}
-use Rattle.wasm_tree.specs.declared.module.ValType.TheVariants.{I32, I64}
 use Rattle.wasm_tree.specs.declared.instr.Instr.{Instr}
-use Rattle.wasm_tree.specs.declared.instr.Instr.TheVariants as instr
-use Rattle.wasm_tree.specs.declared.instr.MemArg.{MemArg}
-use Rattle.wasm_tree.specs.declared.op.LoadOp.{LoadOp}
-use Rattle.wasm_tree.specs.declared.op.StoreOp.{StoreOp}
-use Rattle.wasm_tree.specs.declared.op.CompareOp.{CompareOp}
-use Rattle.wasm_tree.specs.declared.op.UnaryOp.{UnaryOp}
-use Rattle.wasm_tree.specs.declared.op.BinaryOp.{BinaryOp}
-use Rattle.wasm_tree.specs.declared.op.ConvertOp.{ConvertOp}
 use Rattle.wasm_tree.specs.declared.module.FuncBody.{FuncBody}
-use Rattle.wasm_tree.specs.Meaning.{width, test_of, compare_of, unary_of, binary_of, convert_of, load_type, load_size, loaded, store_type, store_size, stored}
-use Rattle.wasm_tree.specs.Reduce.{Seq, Plain, Func, State, Label, CallFrame, Config, Step, To, Traps, Sticks, at, with_values, push, on_top, on_two, if_there, load_at, store_at, write_bytes, page_size, act, plain, pieces}
-use Rattle.wasm_tree.specs.Typed.{Takes, convert_from, convert_to}
+use Rattle.wasm_tree.specs.Reduce.{Seq, State, Label, CallFrame, Config, To, at, with_values, act}
 use Rattle.wasm_steps.specs.Steps.{reduce}
 use Rattle.wasm_runner.specs.declared.place.Place.{Place}
-use Rattle.wasm_runner.specs.Kinds.{IsOf, AreOf}
-use Rattle.wasm_runner.specs.Sound.{Scope, IsSound, most_memory}
+use Rattle.wasm_sound.specs.Kinds.{AreOf}
+use Rattle.wasm_sound.specs.Sound.{Scope, IsSound, most_memory}
 use Rattle.wasm_runner.specs.Standing.{Stacks, IsAt, held, below_of, waiting}
-use Rattle.wasm_runner.specs.Steps.{Goes, Stays}
+use Rattle.wasm_runner.specs.Steps.{Goes}
 use Rattle.wasm_runner.proofs.Holding.{held_count, first_cell, written, pushed}
 use Rattle.wasm_runner.proofs.Going as G
 use Rattle.wasm_runner.proofs.Going.{with_cells, moved}
-use Rattle.wasm_runner.proofs.Typing.{one_at, set_at}
-use Rattle.wasm_runner.proofs.Simple as S
-use Rattle.std.proofs.Common.{get_or, eqb}
-use Rattle.std.proofs.lemmas.Bool.{lt-ltb, le-leb, lt-leb}
-use Rattle.std.proofs.lemmas.List.{get_or-drop, get_or-append-add, get_or-reverse, drop-set-add, set-append_left, set-append_right, reverse-append, length-reverse}
-use Rattle.std.proofs.Math.ListN.{get_or-append}
-use Rattle.std.proofs.Math.Seq.{set-append_seam}
-use Rattle.std.proofs.lemmas.Option.{slice_get-map, slice_get_within, slice_get-get_or, get_or_from_slice_get}
-use Rattle.std.specs.Option.{option_map}
-use Rattle.wasm_tree.specs.declared.module.GlobalVar.{GlobalVar}
+use Rattle.std.proofs.lemmas.List.{get_or-drop, length-reverse}
+use Rattle.std.proofs.lemmas.Option.{slice_get_within, slice_get-get_or, get_or_from_slice_get}
 use Rattle.wasm_tree.specs.Cells.{cells_below}
 use Rattle.wasm_runner.specs.Standing.{cells_of_frames}
 use Rattle.wasm_runner.proofs.Holding.{below_count}
 use Rattle.std.proofs.Common.{◌≢◌, inl, inr}
 use Rattle.std.proofs.lemmas.Bool.{cases_lt}
-use Rattle.std.proofs.lemmas.List.{drop-drop, drop-append-le, take-append-le, drop-set-lt, drop_all}
-use Rattle.wasm_tree.specs.Reduce.{Nil, InBlock, InLoop, InIf, arity_of, enter, leave, branch, give_back}
-use Rattle.wasm_tree.specs.Typed.{Context, Typed, Has, result_types}
+use Rattle.std.proofs.lemmas.List.{drop-drop, drop-append-le, take-append-le, drop_all}
+use Rattle.wasm_tree.specs.Reduce.{Nil, branch, give_back}
+use Rattle.wasm_tree.specs.Typed.{Context}
 use Rattle.wasm_runner.specs.declared.place.Block.{Block}
 use Rattle.wasm_runner.specs.declared.step.Step.{Step as Taken}
 use Rattle.wasm_runner.specs.declared.step.Step.TheVariants as took
-use Rattle.wasm_runner.specs.declared.jump.Jump.{Jump}
-use Rattle.wasm_runner.specs.Jumps.{Stands, rests, past_arm, beyond, otherwise, IsJump, AreJumps}
-use Rattle.wasm_runner.specs.Sound.{context, IsLabel, AreLabels, AreFrames}
-use Rattle.wasm_runner.specs.Standing.{IsBlock, AreBlocks, AreCallers, HasRoom, blocks_of, Shows}
+use Rattle.wasm_sound.specs.Sound.{context, IsLabel, AreLabels, AreFrames}
+use Rattle.wasm_runner.specs.Standing.{IsBlock, AreBlocks, AreCallers, HasRoom, blocks_of}
 use Rattle.wasm_runner.specs.Steps.{Took, GivesBack, Exits}
-use Rattle.wasm_runner.proofs.Places.{drop_here, block_pieces, loop_pieces, if_pieces, else_pieces, end_pieces, from_closing, from_if, from_end, from_else}
-use Rattle.wasm_runner.proofs.Typing.{Split, split, same_length, front_is, joined}
+use Rattle.wasm_runner.proofs.Typing.{split, same_length, front_is, joined}
 use Rattle.wasm_runner.proofs.Holding.{below_more}
 
 -- what is below a place of the cells

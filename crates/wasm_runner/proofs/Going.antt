@@ -1,22 +1,22 @@
 -- One reduction of the next instruction, and what the runner's stacks stand for after it.
-use Rattle.std.proofs.Common.{◌≡◌, ℕ, zero, suc, ◌+◌, ◌-◌, ◌<◌, ◌≤◌, List, [], ◌∷◌, ◌++◌, length, take, drop, Option, Some, None, refl, sym, ap, ◌∙◌, subst, arith, append_assoc, length-append, length-drop}
-use Rattle.std.specs.Prelude.{slice_get, slice_set, slice_index, reverse, map}
-use Rattle.std.proofs.lemmas.List.{length-set}
+use Rattle.std.proofs.Common.{◌≡◌, ℕ, ◌+◌, ◌<◌, ◌≤◌, List, [], ◌∷◌, ◌++◌, length, drop, Some, sym, ap, ◌∙◌, subst, arith, length-drop}
+use Rattle.std.specs.Prelude.{slice_get, slice_index, reverse, map}
 use Rattle.wasm_tree.specs.declared.module.ValType.{ValType}
 use Rattle.wasm_tree.specs.declared.instr.Instr.{Instr}
 use Rattle.wasm_tree.specs.declared.module.FuncBody.{FuncBody}
-use Rattle.wasm_tree.specs.Reduce.{Seq, Plain, Func, State, Label, CallFrame, Config, Step, To, at, with_values, act, pieces}
+use Rattle.wasm_tree.specs.Reduce.{Seq, Plain, Func, State, Config, To, at, act, pieces}
 use Rattle.wasm_tree.specs.Typed.{Takes}
 use Rattle.wasm_steps.specs.Steps.{reduce}
 use Rattle.wasm_runner.specs.declared.place.Place.{Place}
-use Rattle.wasm_runner.specs.Kinds.{IsOf, AreOf}
-use Rattle.wasm_runner.specs.Sound.{Scope, IsSound, most_memory}
+use Rattle.wasm_sound.specs.Kinds.{IsOf, AreOf}
+use Rattle.wasm_sound.specs.Sound.{Scope, IsSound, most_memory}
 use Rattle.wasm_runner.specs.Jumps.{Stands, rests}
-use Rattle.wasm_runner.specs.Standing.{Stacks, IsAt, Shows, HasRoom, IsWithin, Reaches, Stay, Reduced, Answered, held, below_of, waiting, AreBlocks, cells_of_frames}
+use Rattle.wasm_runner.specs.Standing.{Stacks, IsAt, Shows, HasRoom, IsWithin, held, below_of, waiting, AreBlocks, cells_of_frames}
+use Rattle.wasm_sound.specs.Reached.{Reaches, Stay, Reduced, Answered}
 use Rattle.wasm_runner.specs.Steps.{Goes}
 use Rattle.wasm_runner.proofs.Places.{IsPlain, drop_here, plain_pieces, from_onto}
 use Rattle.wasm_runner.proofs.Typing.{Takes1, took}
-use Rattle.wasm_runner.proofs.Holding.{held_count, first_cell, written}
+use Rattle.wasm_runner.proofs.Holding.{first_cell}
 
 -- room for what follows
 pub room_after : (funcs : List Func) (n b k : ℕ) (c d : Config) → HasRoom funcs n b k c → reduce funcs c ≡ To d → HasRoom funcs n b k d

@@ -1,10 +1,10 @@
 -- What cells hold when one of them is written, and how many they are.
-use Rattle.std.proofs.Common.{◌≡◌, ℕ, zero, suc, ◌+◌, ◌-◌, ◌<◌, ◌≤◌, List, [], ◌∷◌, ◌++◌, length, take, drop, Option, Some, None, refl, sym, ap, ◌∙◌, subst, arith, append_assoc, length-append, length-drop, drop-cons, get_or, add_assoc}
-use Rattle.std.specs.Prelude.{slice_get, slice_set, slice_index, reverse, replicate, sum_by}
+use Rattle.std.proofs.Common.{◌≡◌, ℕ, suc, ◌+◌, ◌-◌, ◌<◌, ◌≤◌, List, [], ◌∷◌, ◌++◌, length, drop, refl, sym, ap, ◌∙◌, arith, length-append, length-drop, drop-cons, get_or}
+use Rattle.std.specs.Prelude.{slice_set, slice_index, reverse}
 use Rattle.std.proofs.lemmas.List.Sums.{sum_by-cons}
-use Rattle.std.proofs.lemmas.List.{drop-set-lt, drop-set, length-set, drop_all, drop-drop, length-reverse}
-use Rattle.wasm_tree.specs.Reduce.{Label, CallFrame, Config, State, Seq, at}
-use Rattle.wasm_tree.specs.Cells.{cells_below, cells_of_frame, cells_of, next_constants}
+use Rattle.std.proofs.lemmas.List.{drop-set, length-reverse}
+use Rattle.wasm_tree.specs.Reduce.{Label, CallFrame, Config}
+use Rattle.wasm_tree.specs.Cells.{cells_below, cells_of_frame, cells_of}
 use Rattle.wasm_runner.specs.Standing.{below_of, waiting, held, cells_of_frames, blocks_of}
 
 -- ---- sums

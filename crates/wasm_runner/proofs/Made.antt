@@ -1,18 +1,17 @@
 -- The ends ahead of a place are right, and so are the jumps that are made from them.
-use Rattle.std.proofs.Common.{◌≡◌, ◌≢◌, ℕ, zero, suc, ◌+◌, ◌-◌, ◌<◌, ◌≤◌, List, [], ◌∷◌, length, Option, Some, None, refl, sym, ap, ◌∙◌, subst, arith, Bool, true, false, drop, ⊎_elim, get_or}
+use Rattle.std.proofs.Common.{◌≡◌, ◌≢◌, ℕ, ◌+◌, ◌-◌, ◌<◌, List, [], ◌∷◌, length, Some, refl, sym, ap, ◌∙◌, subst, arith, Bool, true, false, drop, ⊎_elim, get_or}
 use Rattle.std.specs.Prelude.{slice_get, slice_set, if◌then◌else◌}
 use Rattle.std.proofs.lemmas.List.{drop-drop, drop_all, length-set, get_or-set_same, get_or-set_other}
 use Rattle.std.proofs.lemmas.Bool.{cases_lt}
 use Rattle.std.proofs.lemmas.Option.{slice_get_within, slice_get-get_or, get_or_from_slice_get}
-use Rattle.wasm_tree.specs.declared.module.ValType.{ValType}
 use Rattle.wasm_tree.specs.declared.instr.Instr.{Instr}
 use Rattle.wasm_tree.specs.declared.instr.Instr.TheVariants as instr
 use Rattle.wasm_tree.specs.Reduce.{Seq, Nil, Plain, InBlock, InLoop, InIf, Piece, pieces, onto, closing, closing_if, start_piece}
 use Rattle.wasm_runner.specs.declared.jump.Jump.{Jump}
 use Rattle.wasm_runner.specs.declared.jump.Ending.{Ending}
-use Rattle.wasm_runner.specs.Jumps.{past_arm, beyond, otherwise, IsJump, AreJumps}
+use Rattle.wasm_runner.specs.Jumps.{beyond, otherwise, IsJump, AreJumps}
 use Rattle.wasm_runner.specs.Ends.{cut_block, cut_if, after_of, jump_if, jump_of, ends_step, ends_at, AreMade}
-use Rattle.wasm_runner.proofs.Places.{IsPlain, drop_here, plain_pieces, block_pieces, loop_pieces, if_pieces, else_pieces, end_pieces, no_pieces}
+use Rattle.wasm_runner.proofs.Places.{drop_here, plain_pieces, block_pieces, loop_pieces, if_pieces, else_pieces, end_pieces, no_pieces}
 
 record EndOk (code : List Instr) (e : Ending) (arm : Bool) (ps : List Piece) : Type 0 where
   mark : e.arm ≡ arm

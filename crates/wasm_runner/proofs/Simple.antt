@@ -1,29 +1,25 @@
 -- Instructions that change operands, locals, globals or memory.
-use Rattle.std.proofs.Common.{◌≡◌, ℕ, zero, suc, ◌+◌, ◌-◌, ◌/◌, ◌<◌, ◌≤◌, ◌^◌, List, [], ◌∷◌, ◌++◌, length, take, drop, Option, Some, None, Bool, true, false, refl, sym, ap, ◌∙◌, subst, arith, append_assoc, length-append, length-drop}
-use Rattle.std.specs.Prelude.{slice_get, slice_set, slice_index, reverse, map, nat_le, nat_lt, ◌==◌, if◌then◌else◌, ℤ}
-use Rattle.std.specs.Int.{w32, w64, cast_unsigned}
+use Rattle.std.proofs.Common.{◌≡◌, ℕ, ◌+◌, ◌-◌, ◌<◌, List, [], ◌∷◌, length, drop, Some, None, refl, sym, ap, ◌∙◌, arith}
+use Rattle.std.specs.Prelude.{slice_get, slice_set, slice_index, map}
 use Rattle.std.proofs.lemmas.List.{length-set}
 use Rattle.wasm_tree.specs.declared.module.ValType.{ValType}
-use Rattle.wasm_tree.specs.declared.module.ValType.TheVariants.{I32, I64}
+use Rattle.wasm_tree.specs.declared.module.ValType.TheVariants.{I32}
 use Rattle.wasm_tree.specs.declared.instr.Instr.{Instr}
 use Rattle.wasm_tree.specs.declared.instr.Instr.TheVariants as instr
-use Rattle.wasm_tree.specs.declared.instr.MemArg.{MemArg}
-use Rattle.wasm_tree.specs.declared.op.LoadOp.{LoadOp}
-use Rattle.wasm_tree.specs.declared.op.StoreOp.{StoreOp}
 use Rattle.wasm_tree.specs.declared.op.CompareOp.{CompareOp}
 use Rattle.wasm_tree.specs.declared.op.UnaryOp.{UnaryOp}
 use Rattle.wasm_tree.specs.declared.op.BinaryOp.{BinaryOp}
 use Rattle.wasm_tree.specs.declared.op.ConvertOp.{ConvertOp}
 use Rattle.wasm_tree.specs.declared.module.FuncBody.{FuncBody}
-use Rattle.wasm_tree.specs.Meaning.{width, test_of, compare_of, unary_of, binary_of, convert_of, load_type, load_size, loaded, store_type, store_size, stored}
-use Rattle.wasm_tree.specs.Reduce.{Seq, Plain, Func, State, Label, CallFrame, Config, Step, To, Traps, Sticks, at, with_values, push, on_top, on_two, if_there, load_at, store_at, write_bytes, page_size, act, plain, pieces}
-use Rattle.wasm_tree.specs.Typed.{Takes, convert_from, convert_to}
+use Rattle.wasm_tree.specs.Meaning.{width, test_of, compare_of, unary_of, binary_of, convert_of}
+use Rattle.wasm_tree.specs.Reduce.{Seq, Plain, State, Config, Step, To, Traps, at, with_values, push, on_top, on_two, if_there, act, plain}
+use Rattle.wasm_tree.specs.Typed.{convert_from, convert_to}
 use Rattle.wasm_steps.specs.Steps.{reduce}
 use Rattle.wasm_runner.specs.declared.place.Place.{Place}
-use Rattle.wasm_runner.specs.Kinds.{IsOf, AreOf}
-use Rattle.wasm_runner.specs.Sound.{Scope, IsSound, most_memory}
-use Rattle.wasm_runner.specs.Standing.{Stacks, IsAt, held, below_of, waiting}
-use Rattle.wasm_runner.specs.Steps.{Goes, Stays}
+use Rattle.wasm_sound.specs.Kinds.{IsOf, AreOf}
+use Rattle.wasm_sound.specs.Sound.{Scope, IsSound}
+use Rattle.wasm_runner.specs.Standing.{Stacks, IsAt, held}
+use Rattle.wasm_runner.specs.Steps.{Goes}
 use Rattle.wasm_runner.proofs.Holding.{held_count, first_cell, written, pushed}
 use Rattle.wasm_runner.proofs.Going as G
 use Rattle.wasm_runner.proofs.Going.{with_cells, moved}

@@ -1,15 +1,13 @@
 -- Operands have the types that instructions take, and what they leave has theirs.
-use Rattle.std.proofs.Common.{◌≡◌, ℕ, zero, suc, ◌+◌, ◌-◌, ◌<◌, ◌≤◌, ◌^◌, List, [], ◌∷◌, ◌++◌, length, take, drop, Option, Some, None, refl, sym, ap, ◌∙◌, subst, arith, length-append}
-use Rattle.std.specs.Prelude.{slice_get, slice_set, reverse, replicate, map}
-use mir.Val.{bits}
+use Rattle.std.proofs.Common.{◌≡◌, ℕ, zero, suc, ◌<◌, ◌≤◌, List, [], ◌∷◌, ◌++◌, length, take, drop, Some, refl, sym, ap, subst, arith}
+use Rattle.std.specs.Prelude.{slice_get, slice_set, replicate, map}
 use Rattle.wasm_tree.specs.declared.module.ValType.{ValType}
 use Rattle.wasm_tree.specs.declared.module.ValType.TheVariants.{I32, I64}
 use Rattle.wasm_tree.specs.declared.instr.Instr.{Instr}
-use Rattle.wasm_tree.specs.Meaning.{width}
-use Rattle.wasm_tree.specs.Reduce.{Seq, Plain, State, Label, CallFrame, Config, at}
-use Rattle.wasm_tree.specs.Typed.{Context, Typed, Takes, Applies}
-use Rattle.wasm_runner.specs.Kinds.{IsOf, AreOf}
-use Rattle.wasm_runner.specs.Sound.{Scope, context, IsSound, most_memory}
+use Rattle.wasm_tree.specs.Reduce.{Seq, Plain, State, Label, CallFrame, at}
+use Rattle.wasm_tree.specs.Typed.{Takes}
+use Rattle.wasm_sound.specs.Kinds.{IsOf, AreOf}
+use Rattle.wasm_sound.specs.Sound.{Scope, IsSound, most_memory}
 
 -- ---- values of types
 

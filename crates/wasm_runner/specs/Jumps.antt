@@ -1,6 +1,6 @@
 -- What stands at a place of flat code, and where control goes from there: Core Specification 1.0, 4.4.6. The pieces of
 -- the code from a place on (`pieces` of wasm_tree) are what is left of the sequences that are open there.
-use Rattle.std.specs.Prelude.{◌≡◌, ◌+◌, ◌-◌, ℕ, List, [], ◌∷◌, Bool, true, false, if◌then◌else◌, Some, length, drop, slice_get}
+use Rattle.std.specs.Prelude.{◌≡◌, ◌+◌, ℕ, List, [], ◌∷◌, Bool, false, if◌then◌else◌, Some, length, drop, slice_get}
 use Rattle.wasm_tree.specs.declared.instr.Instr.{Instr}
 use Rattle.wasm_tree.specs.declared.instr.Instr.TheVariants as instr
 use Rattle.wasm_tree.specs.Reduce.{Seq, Nil, Piece, Label, pieces}

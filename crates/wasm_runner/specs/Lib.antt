@@ -1,7 +1,14 @@
-pub mod Kinds
-pub mod Sound
 pub mod Jumps
 pub mod Ends
 pub mod Standing
 pub mod Steps
 pub mod Pauses
+pub mod Answers
+pub mod Following
+pub mod Activations
+pub mod Turns
+pub mod Prepared
+pub mod Running
+pub mod Exporting
+pub mod Entries
+pub mod Snapshots

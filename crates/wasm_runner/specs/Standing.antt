@@ -1,16 +1,16 @@
 -- How a runner's cells and marks stand for a configuration. Cells are one stack that grows downward and holds operands
 -- and locals alike; a mark is kept for each open block and for each caller that waits.
-use Rattle.std.specs.Prelude.{◌≡◌, ◌+◌, ◌≤◌, ℕ, ℤ, List, [], ◌∷◌, ◌++◌, length, drop, reverse, slice_get, Some, sum_by}
+use Rattle.std.specs.Prelude.{◌≡◌, ◌+◌, ◌≤◌, ℕ, List, [], ◌∷◌, ◌++◌, length, drop, reverse, slice_get, Some, sum_by}
 use Rattle.wasm_tree.specs.declared.instr.Instr.{Instr}
 use Rattle.wasm_tree.specs.declared.module.FuncBody.{FuncBody}
-use Rattle.wasm_tree.specs.Reduce.{Func, Label, CallFrame, Config, To, Asks, pieces}
+use Rattle.wasm_tree.specs.Reduce.{Func, Label, CallFrame, Config, pieces}
 use Rattle.wasm_tree.specs.Cells.{cells_below, cells_of_frame, cells_of}
-use Rattle.wasm_steps.specs.Steps.{reduce}
 use Rattle.wasm_runner.specs.declared.place.Block.{Block}
 use Rattle.wasm_runner.specs.declared.place.Caller.{Caller}
 use Rattle.wasm_runner.specs.declared.place.Place.{Place}
 use Rattle.wasm_runner.specs.Jumps.{Stands, rests}
-use Rattle.wasm_runner.specs.Sound.{Scope, IsSound}
+use Rattle.wasm_sound.specs.Sound.{Scope, IsSound}
+use Rattle.wasm_sound.specs.Reached.{Reaches}
 
 -- ---- what a configuration holds
 
@@ -52,6 +52,7 @@ AreBlocks cells code (mark ∷ marks) (label ∷ labels) rest = IsBlock cells co
 pub record IsCaller (cells : ℕ) (codes : List FuncBody) (floor : ℕ) (blocks : List Block) (mark : Caller) (frame : CallFrame) (frames : List CallFrame) : Type 0 where
   pub body : FuncBody
   pub found : slice_get codes mark.function ≡ Some body
+  pub arity : mark.arity ≡ frame.arity
   pub leads : Stands (frame.rest ∷ rests frame.labels) (pieces (drop mark.back body.code))
   pub base : mark.base + cells_of_frames frames ≡ cells
   pub floor_is : floor + length frame.labels ≡ mark.floor
@@ -65,12 +66,6 @@ AreCallers cells codes floor blocks (mark ∷ marks) (frame ∷ frames) =
     IsCaller cells codes floor blocks mark frame frames × AreCallers cells codes mark.floor (drop (length frame.labels) blocks) marks frames
 
 -- ---- room
-
--- a run comes from one configuration to the other by reductions, whatever the host answers
-pub data Reaches (funcs : List Func) : Config → Config → Type 0 where
-  Stay : (c : Config) → Reaches funcs c c
-  Reduced : (c d e : Config) → reduce funcs c ≡ To d → Reaches funcs d e → Reaches funcs c e
-  Answered : (number : ℤ) (memory : List ℕ) (c d e : Config) → reduce funcs c ≡ Asks number memory d → Reaches funcs d e → Reaches funcs c e
 
 pub record IsWithin (cells blocks callers : ℕ) (c : Config) : Type 0 where
   pub cells_fit : cells_of c ≤ cells

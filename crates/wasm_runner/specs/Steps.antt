@@ -9,8 +9,8 @@ use Rattle.wasm_steps.specs.Steps.{reduce}
 use Rattle.wasm_runner.specs.declared.place.Place.{Place}
 use Rattle.wasm_runner.specs.declared.step.Step.{Step}
 use Rattle.wasm_runner.specs.declared.step.Step.TheVariants as took
-use Rattle.wasm_runner.specs.Kinds.{AreOf}
-use Rattle.wasm_runner.specs.Sound.{Scope, AreFrames, most_memory}
+use Rattle.wasm_sound.specs.Kinds.{AreOf}
+use Rattle.wasm_sound.specs.Sound.{Scope, AreFrames, most_memory}
 use Rattle.wasm_runner.specs.Standing.{Stacks, IsAt, HasRoom, AreCallers, waiting, cells_of_frames, blocks_of}
 
 -- one reduction leads to where the stacks stand

@@ -4,7 +4,7 @@ ghost use Rattle.std.specs.Prelude.{ℕ, List};
 ghost use Rattle.wasm_tree.specs.declared.module.FuncBody.{FuncBody};
 ghost use Rattle.wasm_tree.specs.Reduce.{Config};
 ghost use Rattle.wasm_runner.specs.declared.place.Caller.{Caller};
-ghost use Rattle.wasm_runner.specs.Sound.{Scope};
+ghost use Rattle.wasm_sound.specs.Sound.{Scope};
 ghost use Rattle.wasm_runner.specs.Jumps.{AreJumps};
 ghost use Rattle.wasm_runner.specs.Standing.{IsAt, IsSomewhere};
 ghost use Rattle.wasm_runner.specs.Pauses.{Paused};

@@ -4,7 +4,7 @@ ghost use Rattle.std.specs.Prelude.{◌≡◌, ◌+◌, ◌≤◌, ◌%◌, ◌^
 ghost use Rattle.std.specs.Int.{w8, w16, w32, w64, to_le_bytes, from_le_bytes};
 ghost use Rattle.wasm_tree.specs.Meaning.{loaded, load_size, load_type, stored, store_size};
 ghost use Rattle.wasm_tree.specs.Reduce.{write_bytes};
-ghost use Rattle.wasm_runner.specs.Kinds.{IsOf};
+ghost use Rattle.wasm_sound.specs.Kinds.{IsOf};
 
 use wasm_tree::{LoadOp, StoreOp};
 

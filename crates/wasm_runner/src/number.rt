@@ -6,7 +6,7 @@ ghost use Rattle.wasm_tree.specs.declared.op.BinaryOp.TheVariants as binary;
 ghost use Rattle.wasm_tree.specs.Meaning.{width, test_of, compares, compare_of, unary_of, binary_of, convert_of};
 ghost use Rattle.wasm_tree.specs.Typed.{convert_from, convert_to};
 ghost use Rattle.wasm_tree.specs.declared.module.ValType.TheVariants.{I32};
-ghost use Rattle.wasm_runner.specs.Kinds.{IsOf};
+ghost use Rattle.wasm_sound.specs.Kinds.{IsOf};
 
 use wasm_tree::{BinaryOp, CompareOp, ConvertOp, UnaryOp, ValType};
 

@@ -8,13 +8,15 @@ pub struct Block {
     pub height: usize,
 }
 
-/// A caller that waits: its number, where it goes on, the cell past its locals, and where its open blocks end.
+/// A caller that waits: its number, where it goes on, the cell past its locals, where its open blocks end, and how many
+/// results it waits for.
 #[derive(Clone, Copy, Debug)]
 pub struct Caller {
     pub function: usize,
     pub back: usize,
     pub base: usize,
     pub floor: usize,
+    pub arity: usize,
 }
 
 /// A place in a function's code: the next instruction, the last operand's cell, the innermost open block's mark, the

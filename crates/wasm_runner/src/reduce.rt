@@ -4,13 +4,13 @@ ghost use Rattle.std.specs.Prelude.{ℕ, List, ◌≡◌, ◌≢◌, ◌+◌, �
 ghost use Rattle.std.specs.Bool.{OnTrue, OnFalse};
 ghost use Rattle.std.specs.Int.{w32, w64, cast_unsigned};
 ghost use Rattle.wasm_tree.specs.declared.module.ValType.TheVariants.{I32, I64};
-ghost use Rattle.wasm_runner.specs.Kinds.{IsOf};
+ghost use Rattle.wasm_sound.specs.Kinds.{IsOf};
 ghost use Rattle.wasm_tree.specs.declared.module.FuncBody.{FuncBody};
 ghost use Rattle.wasm_tree.specs.Reduce.{Config, arity_of as label_arity};
 ghost use Rattle.wasm_runner.specs.declared.place.Block.{Block as Mark};
 ghost use Rattle.wasm_runner.specs.declared.place.Caller.{Caller};
 ghost use Rattle.wasm_runner.specs.declared.step.Step.TheVariants.{Go, Exit};
-ghost use Rattle.wasm_runner.specs.Sound.{Scope};
+ghost use Rattle.wasm_sound.specs.Sound.{Scope};
 ghost use Rattle.wasm_runner.specs.Jumps.{AreJumps};
 ghost use Rattle.wasm_runner.specs.Standing.{Stacks, IsAt, IsSomewhere};
 ghost use Rattle.wasm_runner.specs.Steps.{Took};
@@ -82,7 +82,7 @@ fn set_global(cells: &[u64], globals: &mut [u64], sp: usize, global: u32)
 
 // The bits of a constant.
 #[inline(always)]
-fn bits32(value: i32) -> u64
+pub fn bits32(value: i32) -> u64
     ensures value { result ≡ cast_unsigned w32 value }
     ensures fits { IsOf I32 result }
 {
@@ -91,7 +91,7 @@ fn bits32(value: i32) -> u64
 
 // The bits of a constant.
 #[inline(always)]
-fn bits64(value: i64) -> u64
+pub fn bits64(value: i64) -> u64
     ensures value { result ≡ cast_unsigned w64 value }
     ensures fits { IsOf I64 result }
 {

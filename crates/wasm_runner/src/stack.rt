@@ -6,7 +6,7 @@ ghost use Rattle.wasm_tree.specs.Meaning.{width, test_of, compare_of, unary_of, 
 ghost use Rattle.wasm_tree.specs.Typed.{convert_from, convert_to};
 ghost use Rattle.wasm_tree.specs.Reduce.{write_bytes};
 ghost use Rattle.wasm_tree.specs.declared.module.ValType.TheVariants.{I32};
-ghost use Rattle.wasm_runner.specs.Kinds.{IsOf};
+ghost use Rattle.wasm_sound.specs.Kinds.{IsOf};
 
 use crate::memory::{load, load_bytes, store, store_bytes};
 use crate::number::{binary, compare, convert, test, unary};

@@ -56,9 +56,6 @@ type_of_number m k t n d e lt is there at =
     let same : n ≡ t = is ∙ some_is (get_or m.functions k n) t (sym (slice_get-get_or m.functions k n lt) ∙ e) in
     at ∙ (sym (ap (λ o. unwrap_or o no_type) (slice_get-get_or m.types n d there)) ∙ ap (type_at m) same)
 
-pub few_of_number : (m : Module) (n : ℕ) (d : FuncType) → AllByRecursion (λ type. length type.results ≤ 1) m.types → n < length m.types → d ≡ get_or m.types n d → length d.results ≤ 1
-few_of_number m n d h lt e = subst (λ (t : FuncType). length t.results ≤ 1) (sym e) (all_index (λ (type : FuncType). length type.results ≤ 1) m.types n d h lt)
-
 limits_at : (m : Module) (k : ℕ) (body : FuncBody) → AllByRecursion IsBodyWithinLimits m.codes → k < length m.codes → body ≡ get_or m.codes k body → IsBodyWithinLimits body
 limits_at m k body h lt e = subst IsBodyWithinLimits (sym e) (all_index IsBodyWithinLimits m.codes k body h lt)
 

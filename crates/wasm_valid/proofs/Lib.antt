@@ -1,4 +1,12 @@
 pub mod SlotLemmas
+pub mod NameLemmas
+pub mod DescribedLemmas
+pub mod ExportLemmas
+pub mod PartLemmas
+pub mod AcceptLemmas
+pub mod PartOffsets
+pub mod RefusalLemmas
+pub mod ScalarLemmas
 mod OperandTypes
 mod Actions
 mod Held
@@ -14,3 +22,9 @@ pub mod BodyLemmas
 pub mod BodyTypes
 pub mod PassLemmas
 pub mod EachLemmas
+pub mod GovernedBodies
+pub mod CallLemmas
+pub mod RoomLemmas
+pub mod NeedLemmas
+pub mod SpaceLemmas
+pub mod SoundModules

@@ -1,4 +1,4 @@
-pub mod Reached
+pub mod Checked
 pub mod Views
 pub mod Checking
 pub mod Parts
@@ -6,3 +6,11 @@ pub mod Frames
 pub mod Indexed
 pub mod Ends
 pub mod Bodies
+pub mod Needs
+pub mod CallEdges
+pub mod RoomsOf
+pub mod IsBroken
+pub mod Texts
+pub mod Described
+pub mod Exported
+pub mod Rules

@@ -5,6 +5,7 @@ ghost use Rattle.wasm_tree.specs.Spelled.{count_of_locals, most_locals};
 ghost use Rattle.wasm_tree.specs.Valid.{AreFunctionsIndexed, AreBodiesTyped, AreBodiesWithinLimits, HaveFewResults, IsBody};
 ghost use Rattle.wasm_tree.specs.Numbers.{type_at};
 ghost use Rattle.wasm_valid.specs.Bodies.{context_of, result_one, IsTypedAt};
+ghost use Rattle.wasm_valid.specs.RoomsOf.{IsNeedAt, AreNeedsOf};
 ghost use Rattle.wasm_valid.specs.Checking.{Stays, at_begin};
 
 use crate::body::{Need, Scope, checked};
@@ -55,58 +56,63 @@ pub fn need_of(
 }
 
 /// The type of the function whose body has this place among the bodies.
-#[tactic(auto, using(crate::proofs::EachLemmas::number_there, crate::proofs::EachLemmas::type_of_number, crate::proofs::EachLemmas::few_of_number))]
-fn body_type(module: &Module, at: usize) -> &FuncType
+#[tactic(auto, using(crate::proofs::EachLemmas::number_there, crate::proofs::EachLemmas::type_of_number))]
+pub fn body_type(module: &Module, at: usize) -> &FuncType
     requires there { at < length «module».now.functions }
     requires indexed { AreFunctionsIndexed «module».now }
-    requires types { HaveFewResults «module».now }
-    ensures same { (t : ℕ) → slice_get «module».now.functions at ≡ Some t → result.now ≡ type_at «module».now t }
-    ensures few { length result.now.results ≤ 1 }
+    ensures { (t : ℕ) → slice_get «module».now.functions at ≡ Some t → result.now ≡ type_at «module».now t }
 {
     let number = module.functions.as_slice()[at] as usize;
     &module.types.as_slice()[number]
 }
 
-/// Whether the function with this place among the module's own has a body of its type.
-#[tactic(auto, using(crate::proofs::EachLemmas::locals_at, crate::proofs::EachLemmas::closed_at, crate::proofs::EachLemmas::typed_here, crate::proofs::EachLemmas::untyped_here))]
-fn is_typed_at(
+/// What the function with this place among the module's own holds at most, if its body is typed.
+#[tactic(auto, using(crate::proofs::EachLemmas::locals_at, crate::proofs::EachLemmas::closed_at, crate::proofs::EachLemmas::typed_here, crate::proofs::EachLemmas::untyped_here, crate::proofs::NeedLemmas::need_here))]
+fn need_at(
     operands: &mut Operands,
     ends: &mut Vec<u64>,
     module: &Module,
     at: usize,
-) -> Result<bool, AllocError>
+) -> Result<Option<Need>, AllocError>
     requires import { HasImport «module».now }
     requires indexed { AreFunctionsIndexed «module».now }
     requires types { HaveFewResults «module».now }
     requires limits { AreBodiesWithinLimits «module».now }
     requires counts { length «module».now.functions ≡ length «module».now.codes }
     requires there { at < length «module».now.codes }
-    ensures { IfOk result (λ typed. IsTrue typed ↔ IsTypedAt «module».now at) }
+    ensures typed { IfOk result (λ need. IfSome need (λ need. IsTypedAt «module».now at)) }
+    ensures bounded { IfOk result (λ need. IfSome need (λ need. IsNeedAt «module».now need at)) }
+    ensures untyped { IfOk result (λ need. need ≡ None → ¬ IsTypedAt «module».now at) }
 {
     let ty = body_type(module, at);
     let body = &module.codes.as_slice()[at];
     match need_of(operands, ends, module, ty, body)? {
-        Some(_) => Ok(true),
-        None => Ok(false),
+        Some(need) => Ok(Some(need)),
+        None => Ok(None),
     }
 }
 
-/// Whether each function has a body of its type.
-#[tactic(auto, using(crate::proofs::EachLemmas::all_typed, crate::proofs::EachLemmas::typed_each, crate::proofs::EachLemmas::typed_more))]
-pub fn are_bodies_typed(alloc: Global, module: &Module) -> Result<bool, AllocError>
+/// What each function holds at most, if each has a body of its type.
+#[tactic(auto, using(crate::proofs::EachLemmas::all_typed, crate::proofs::EachLemmas::typed_each, crate::proofs::EachLemmas::typed_more, crate::proofs::NeedLemmas::needs_more, crate::proofs::NeedLemmas::needs_none))]
+pub fn needs_of(alloc: Global, module: &Module) -> Result<Option<Vec<Need>>, AllocError>
     requires import { HasImport «module».now }
     requires indexed { AreFunctionsIndexed «module».now }
     requires types { HaveFewResults «module».now }
     requires limits { AreBodiesWithinLimits «module».now }
     requires counts { length «module».now.functions ≡ length «module».now.codes }
-    ensures { IfOk result (λ typed. IsTrue typed ↔ AreBodiesTyped «module».now) }
+    ensures typed { IfOk result (λ needs. IfSome needs (λ needs. AreBodiesTyped «module».now)) }
+    ensures needs { IfOk result (λ needs. IfSome needs (λ needs. AreNeedsOf «module».now needs.items)) }
+    ensures all { IfOk result (λ needs. IfSome needs (λ needs. length needs.items ≡ length «module».now.codes)) }
+    ensures untyped { IfOk result (λ needs. needs ≡ None → ¬ AreBodiesTyped «module».now) }
 {
     let mut operands = Operands::new(alloc);
     let mut ends = Vec::new(alloc);
+    let mut needs = Vec::new(alloc);
     for at in 0..module.codes.len() {
-        if !is_typed_at(&mut operands, &mut ends, module, at)? {
-            return Ok(false);
+        match need_at(&mut operands, &mut ends, module, at)? {
+            Some(need) => needs.push(need)?,
+            None => return Ok(None),
         }
     }
-    Ok(true)
+    Ok(Some(needs))
 }

@@ -21,6 +21,20 @@ pub fn put_ends(ends: &mut Vec<u64>, runs: &[LocalRun]) -> Result<(), AllocError
     Ok(())
 }
 
+/// How many locals these runs declare.
+#[tactic(auto, using(crate::proofs::LocalLemmas::count_pushed, crate::proofs::LocalLemmas::count_below))]
+pub fn count_locals(runs: &[LocalRun]) -> u64
+    requires { count_of_locals runs.now ≤ most_locals }
+    ensures same { result ≡ count_of_locals runs.now }
+    ensures few { result ≤ most_locals }
+{
+    let mut count: u64 = 0;
+    for run in runs {
+        count += run.count as u64;
+    }
+    count
+}
+
 /// The first of the ends, which don't fall, that is past the number.
 fn first_past(ends: &[u64], number: u64) -> usize
     ensures within { result ≤ length ends.now }

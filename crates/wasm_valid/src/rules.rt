@@ -6,11 +6,9 @@ ghost use Rattle.std.specs.Int.{w32, cast_unsigned};
 ghost use Rattle.wasm_tree.specs.Reduce.{page_size};
 ghost use Rattle.wasm_tree.specs.Valid.{IsMemory, IsConstantOf};
 
+use crate::memory::PAGE;
 use cm_base::limits::MEMORY_PAGES;
 use wasm_tree::{FuncType, GlobalVar, Instr, Limits, Segment, ValType};
-
-/// The bytes of a page of memory.
-const PAGE: u64 = 65_536;
 
 /// Whether no function type has more than one result.
 pub fn have_few_results(types: &[FuncType]) -> bool

@@ -2,9 +2,12 @@ ghost use Rattle.std.specs.Prelude.{◌≡◌, IfOk};
 ghost use Rattle.cm_base.specs.HostEnds.{IsLawful};
 ghost use Rattle.wasm_tree.specs.Section.{ends_of, block_length};
 ghost use Rattle.wasm_tree.specs.Valid.{Valid as IsValid};
-ghost use Rattle.wasm_valid.specs.Reached.{AreBounds};
+ghost use Rattle.wasm_sound.specs.Reached.{AreBounds};
+ghost use Rattle.wasm_valid.specs.Rules.{IsAccepted};
 ghost use Rattle.wasm_valid.specs.Views.{interface_number};
 
+use crate::accept::Accepted;
+use crate::described::block;
 use crate::slots::Slots;
 use cm_base::{HostEnds, NoMemory};
 use std::alloc::Global;
@@ -25,7 +28,7 @@ pub struct Valid {
 
 impl Model for Valid {
     ghost use Rattle.wasm_tree.specs.Section.{CmajorSection};
-    ghost use Rattle.wasm_valid.specs.Reached.{Checked, IsChecked};
+    ghost use Rattle.wasm_valid.specs.Checked.{Checked, IsChecked};
     ghost use Rattle.wasm_valid.specs.Views.{checked_of};
 
     ghost Value = { Checked };
@@ -36,6 +39,23 @@ impl Model for Valid {
 }
 
 impl Valid {
+    /// A module of which this was found.
+    #[tactic(auto, using(crate::proofs::AcceptLemmas::accepted_lawful, crate::proofs::AcceptLemmas::accepted_checked))]
+    pub(crate) fn new(module: Module, accepted: Accepted) -> Valid
+        requires { IsAccepted «module» accepted }
+        ensures { result.of ≡ «module» }
+    {
+        let section = accepted.section;
+        Valid {
+            module,
+            interface: section.interface,
+            latency: section.latency,
+            slots: Slots::new(section.host, section.addresses),
+            stack: accepted.bounds.cells,
+            marks: accepted.bounds.marks,
+        }
+    }
+
     /// The module.
     pub fn module(&self) -> &Module
         ensures same { result.now ≡ self.now.of }
@@ -89,10 +109,7 @@ impl Valid {
     pub fn block(&self) -> u32
         ensures { result ≡ block_length self.now.section.interface }
     {
-        match self.interface {
-            Interface::Single => 1,
-            Interface::Blocks(block) => block,
-        }
+        block(self.interface)
     }
 
     /// The interface: 1 for a call of each frame, 2 for a call of each block of frames. It takes no memory.

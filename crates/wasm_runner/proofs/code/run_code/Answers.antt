@@ -1,5 +1,5 @@
 -- Each turn of the loop is one step of the run.
-use Rattle.std.proofs.Common.{◌≡◌, ℕ, suc, ◌+◌, ◌-◌, ◌<◌, ◌≤◌, length, arith}
+use Rattle.std.proofs.Common.{◌-◌, arith}
 use Rattle.wasm_runner.proofs.Running.{begins, still_there, in_code, goes, stays, spent, traps, calls, leaves, exit_spent, exits}
 use Rattle.wasm_runner.proofs.code.run_code.Goals as goal
 

@@ -1,4 +1,4 @@
-use Rattle.std.proofs.Common.{◌≡◌, ℕ, ◌+◌, ◌-◌, ◌*◌, length}
+use Rattle.std.proofs.Common.{◌+◌, ◌-◌, ◌*◌, length}
 use Rattle.wasm_runner.proofs.Running.{FromAnywhere}
 use Rattle.wasm_runner.proofs.code.run_code.Given as goal
 

@@ -1,4 +1,4 @@
-use Rattle.std.proofs.Common.{◌≡◌, ℕ, zero, suc, ◌+◌, ◌-◌, ◌<◌, ◌≤◌, length, drop, arith, sym, ap, ◌∙◌, refl, subst, Some}
+use Rattle.std.proofs.Common.{◌≡◌, ◌+◌, ◌-◌, arith, sym, ◌∙◌, subst}
 use Rattle.wasm_runner.specs.Ends.{AreMade}
 use Rattle.wasm_runner.proofs.Made.{table, made_none, made_more, step_ends, step_jump, found, none_yet}
 use Rattle.wasm_runner.proofs.jump.fill.Goals as goal

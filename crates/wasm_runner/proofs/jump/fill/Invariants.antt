@@ -1,4 +1,4 @@
-use Rattle.std.proofs.Common.{◌≡◌, ℕ, ◌+◌, ◌≤◌, length, drop}
+use Rattle.std.proofs.Common.{◌≡◌, ◌≤◌, length, drop}
 use Rattle.wasm_runner.specs.Ends.{ends_at, AreMade}
 use Rattle.wasm_runner.proofs.jump.fill.Given as goal
 

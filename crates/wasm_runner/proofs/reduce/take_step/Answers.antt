@@ -1,5 +1,5 @@
 -- Each step is the reduction of its instruction.
-use Rattle.std.proofs.Common.{◌≡◌, ℕ, ◌+◌, ◌-◌, ◌<◌, ◌≤◌, length, arith, refl, sym, ap, ◌∙◌, subst}
+use Rattle.std.proofs.Common.{◌-◌, arith, refl, ap, ◌∙◌, subst}
 use Rattle.std.specs.Prelude.{slice_set, slice_get, slice_index, unwrap_or}
 use Rattle.std.specs.Int.{w32, w64, cast_unsigned}
 use Rattle.std.proofs.Common.{rules}
@@ -8,7 +8,7 @@ use mir.Val.{SFits}
 use Rattle.wasm_tree.specs.declared.instr.LabelTable.{LabelTable}
 use Rattle.std.proofs.lemmas.Bool.{OnTrue_at, OnFalse_at}
 use Rattle.wasm_tree.specs.declared.module.ValType.TheVariants.{I32, I64}
-use Rattle.wasm_runner.specs.Kinds.{IsOf}
+use Rattle.wasm_sound.specs.Kinds.{IsOf}
 use Rattle.wasm_runner.proofs.Places.{code_here}
 use Rattle.wasm_runner.proofs.Simple as S
 use Rattle.wasm_runner.proofs.Variables as V

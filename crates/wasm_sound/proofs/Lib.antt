@@ -1,0 +1,5 @@
+pub mod Ranges
+pub mod Values
+pub mod Preserved
+pub mod Bounded
+pub mod Reaching

@@ -1,0 +1,5 @@
+pub mod Kinds
+pub mod Sound
+pub mod Reached
+pub mod Governed
+pub mod Rooms

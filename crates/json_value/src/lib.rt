@@ -1,6 +1,7 @@
 //! The JSON value that a file's bytes stand for (RFC 8259): manifests, scripts and state files of version 1 are
 //! read by it. The layers above use the contract of `value_of`, which meets the definition of that name in
-//! `specs/Value`; the value is a `serde_json::Value`, which contracts see as its data.
+//! `specs/Value`; the value is a `serde_json::Value`, which contracts see as its data. `specs/Form` has the words by
+//! which scripts and state files are defined on that data: a file is read, or the first rule that fails is named.
 #![tactic(auto)]
 
 ghost use Rattle.std.specs.Prelude.{◌≡◌, ◌<◌, IfOk, IfErr, IfSome, length, option_map};
@@ -8,7 +9,10 @@ ghost use Rattle.serde_json.specs.Read.{read};
 ghost use Rattle.serde_json.specs.View.{view};
 ghost use Rattle.json_value.specs.Value.{value_of, IsSomeText};
 
+mod form;
+
 use cm_base::NoMemory;
+pub use form::{refused, told};
 use serde_json::Value;
 use std::alloc::Global;
 

@@ -6,7 +6,8 @@ use Rattle.cm_base.specs.declared.play.Saved.{Saved}
 use Rattle.saved_state.specs.declared.state.Version2.{Version2}
 use Rattle.saved_state.specs.declared.state.State.TheVariants as states
 use Rattle.saved_state.specs.State.{is_version_2, IsState, of_version_2, IsStateFault, in_version_1, in_version_2, IsVersion2Fail, IsStateFail}
-use Rattle.saved_state.specs.Version1.{version_1, Answers}
+use Rattle.json_value.specs.Form.{Answers}
+use Rattle.saved_state.specs.Version1.{version_1}
 use Rattle.saved_state.specs.Version2.{mark, IsVersion2}
 use Rattle.saved_state.proofs.Whole.{marked}
 

@@ -1,7 +1,9 @@
 pub mod Answering
+pub mod Applying
 pub mod Codes
 pub mod Names
 pub mod Parts
+pub mod Rows
 pub mod Saved
 pub mod Steps
 pub mod Whole

@@ -4,14 +4,11 @@ use Rattle.std.proofs.lemmas.List.{length-append}
 use Rattle.serde_json.specs.Data.{Data, Members, member}
 use Rattle.cm_base.specs.declared.forms.FormFault.{FormFault}
 use Rattle.cm_base.specs.declared.play.Saved.{Saved}
-use Rattle.saved_state.specs.Version1.{after, integer_of, saved_from}
+use Rattle.json_value.specs.Form.{after, with_front, integer_of}
+use Rattle.saved_state.specs.Version1.{saved_from}
 
 abbrev done : List Saved → Result (List Saved) FormFault
 done saved = Ok saved
-
--- what was read before, and what is still read
-abbrev pub with_front : List Saved → Result (List Saved) FormFault → Result (List Saved) FormFault
-with_front front read = after read (λ saved. Ok (front ++ saved))
 
 regroup : (front : List Saved) (one : Saved) (read : Result (List Saved) FormFault) → with_front front (after read (λ saved. Ok (one ∷ saved))) ≡ with_front (front ++ one ∷ []) read
 regroup front one (Ok saved) = ap done (sym (append_assoc front (one ∷ []) saved))

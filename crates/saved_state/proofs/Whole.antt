@@ -1,11 +1,15 @@
 -- A file of version 2 has one state at most, and reading finds it or shows that there is none.
-use Rattle.std.proofs.Common.{◌≡◌, ◌≢◌, ℕ, true, List, [], ◌++◌, take, drop, Some, None, sym, ap, subst, ◌∙◌}
+use Rattle.std.proofs.Common.{◌≡◌, ◌≢◌, ℕ, Bool, true, false, List, [], ◌++◌, take, drop, Some, None, refl, sym, ap, subst, ◌∙◌}
+use Rattle.std.specs.Prelude.{IsFalse}
 use Rattle.std.specs.Str.{bytes_eq}
 use Rattle.std.proofs.lemmas.List.{take-append-drop}
 use Rattle.std.proofs.lemmas.Slice.Eq.{bytes_eq-Decides}
 use Rattle.saved_state.specs.declared.cursor.Stop.{Stop}
 use Rattle.saved_state.specs.declared.cursor.Stop.TheVariants as stop
 use Rattle.saved_state.specs.declared.state.Version2.{Version2}
+use Rattle.saved_state.specs.declared.state.State.{State}
+use Rattle.saved_state.specs.declared.state.State.TheVariants as states
+use Rattle.saved_state.specs.State.{is_version_2, IsState, of_version_1, of_version_2}
 use Rattle.saved_state.specs.Reading.{Fails, state_at}
 use Rattle.saved_state.specs.Version2.{mark, IsVersion2}
 use Rattle.saved_state.proofs.Codes.{AreBytes, read, first_is, rest_is}
@@ -27,6 +31,10 @@ none_where_more bytes other rest h more state is = more (rest_is other state res
 
 abbrev the_end : List ℕ
 the_end = []
+
+no_version_1 : (test : Bool) → test ≡ true → IsFalse test → ⊥
+no_version_1 true is other = absurd (cc)
+no_version_1 false is other = absurd (cc)
 
 is_none : {X : Type 0} (x : X) → Some x ≡ None → ⊥
 is_none x h = absurd (cc)
@@ -53,3 +61,11 @@ early bytes from e one is h = subst (λ b. state_at b ≡ None) one (subst (λ x
 -- a file of version 2 begins with the mark
 pub marked : (bytes : List ℕ) → bytes_eq (take 4 bytes) mark ≡ true → bytes ≡ mark ++ drop 4 bytes
 marked bytes h = sym (take-append-drop 4 bytes) ∙ ap (λ b. b ++ drop 4 bytes) ((bytes_eq-Decides (take 4 bytes) mark).0 h)
+
+is_marked : (bytes : List ℕ) (state : Version2) → IsVersion2 bytes state → is_version_2 bytes ≡ true
+is_marked bytes state is = rw is.spelled refl
+
+-- the bytes that a state is written as have that state alone
+pub written_once : (bytes : List ℕ) (state : Version2) (found : State) → IsVersion2 bytes state → IsState bytes found → found ≡ states.Version2 state
+written_once bytes state found is (of_version_1 saved other h) = absurd (no_version_1 (is_version_2 bytes) (is_marked bytes state is) other)
+written_once bytes state found is (of_version_2 other marks also) = ap states.Version2 (unique bytes other state also is)

@@ -1,3 +1,4 @@
+pub mod Applied
 pub mod Reading
 pub mod State
 pub mod Version1

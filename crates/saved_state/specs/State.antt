@@ -10,7 +10,8 @@ use Rattle.cm_base.specs.declared.forms.FormFail.TheVariants as fail
 use Rattle.saved_state.specs.declared.state.State.{State}
 use Rattle.saved_state.specs.declared.state.State.TheVariants as states
 use Rattle.saved_state.specs.declared.state.Version2.{Version2}
-use Rattle.saved_state.specs.Version1.{fault, version_1}
+use Rattle.json_value.specs.Form.{fault}
+use Rattle.saved_state.specs.Version1.{version_1}
 use Rattle.saved_state.specs.Version2.{mark, IsVersion2}
 
 -- the file begins with the mark of version 2

@@ -8,7 +8,7 @@ use cm_base::{Bytes, FormFail, SavedList, Snapshot};
 use std::alloc::Global;
 
 /// The first bytes of a file of version 2.
-const MARK: [u8; 4] = [0x43, 0x4D, 0x53, 0x32];
+pub(crate) const MARK: [u8; 4] = [0x43, 0x4D, 0x53, 0x32];
 
 /// What a file of version 2 has: the saved parameters, the bytes of the module that ran, and where its run stands.
 #[derive(Debug, Drop)]

@@ -1,17 +1,12 @@
-ghost use Rattle.std.specs.Prelude.{◌≡◌, ◌<◌, ◌^◌, IsTrue, length};
+ghost use Rattle.std.specs.Prelude.{◌≡◌};
 ghost use Rattle.serde_json.specs.View.{view, members_view};
-ghost use Rattle.saved_state.specs.Version1.{fault as fault_of, version_1, saved_of, parameters_of, saved_from, told, is_one, Answers};
+ghost use Rattle.json_value.specs.Form.{Answers};
+ghost use Rattle.saved_state.specs.Version1.{version_1, saved_of, parameters_of, saved_from, is_one};
 
-use cm_base::{FormFail, FormFault, FormPart, FormRule, Name, NoMemory, Saved, SavedList};
-use json_value::value_of;
+use cm_base::{FormFail, FormPart, FormRule, Name, NoMemory, Saved, SavedList};
+use json_value::{refused, told, value_of};
 use serde_json::{Map, Value};
 use std::alloc::Global;
-
-pub(crate) fn refused(rule: FormRule, part: FormPart, index: u32) -> FormFail
-    ensures { result ≡ FormFail.Refused (fault_of rule part index) }
-{
-    FormFail::Refused(FormFault { rule, part, index })
-}
 
 /// The parameters of a state file of version 1.
 pub(crate) fn read_version_1(alloc: Global, bytes: &[u8]) -> Result<SavedList, FormFail>
@@ -53,13 +48,6 @@ fn parameters_of(alloc: Global, value: &Value) -> Result<SavedList, FormFail>
         Some(members) => saved_from(alloc, members),
         None => Err(refused(FormRule::Shape, FormPart::Parameters, 0)),
     }
-}
-
-/// An index that is told stands still at the end of its type.
-pub(crate) fn told(index: usize) -> u32
-    ensures { result ≡ told index }
-{
-    u32::try_from(index).unwrap_or(u32::MAX)
 }
 
 fn saved_from(alloc: Global, members: &Map<String, Value>) -> Result<SavedList, FormFail>

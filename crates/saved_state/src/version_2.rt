@@ -1,15 +1,15 @@
 ghost use Rattle.std.specs.Prelude.{◌≡◌, ◌++◌, IfOk, IfErr};
 ghost use Rattle.cm_base.specs.declared.forms.FormRule.TheVariants.{Shape};
 ghost use Rattle.cm_base.specs.declared.forms.FormPart.TheVariants.{Whole};
-ghost use Rattle.saved_state.specs.Version1.{fault as fault_of};
+ghost use Rattle.json_value.specs.Form.{fault as fault_of};
 ghost use Rattle.saved_state.specs.Reading.{Gives, state_at};
 ghost use Rattle.saved_state.specs.State.{IsVersion2Fail};
 ghost use Rattle.saved_state.specs.Version2.{mark, IsVersion2};
 
 use crate::cursor::{Cursor, Part, Stop, list};
 use crate::state::Version2;
-use crate::version_1::refused;
 use cm_base::{Bytes, FormFail, FormPart, FormRule, Saved, Snapshot};
+use json_value::refused;
 use std::alloc::Global;
 
 /// The state behind the mark.

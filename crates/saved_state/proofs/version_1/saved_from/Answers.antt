@@ -1,7 +1,8 @@
 use Rattle.std.proofs.Common.{rules, ◌≡◌, [], ◌∷◌, ◌++◌, length, sym, subst, ◌∙◌, string_bytes}
 use Rattle.serde_json.specs.View.{view, members_view}
+use Rattle.json_value.specs.Form.{with_front}
 use Rattle.saved_state.specs.Version1.{saved_from}
-use Rattle.saved_state.proofs.Saved.{with_front, saved-goes_on}
+use Rattle.saved_state.proofs.Saved.{saved-goes_on}
 use Rattle.saved_state.proofs.version_1.saved_from.Goals as goal
 
 pub loop-name-preserved : goal.loop-name-preserved

@@ -1,7 +1,7 @@
 use Rattle.std.proofs.Common.{◌≡◌, length}
 use Rattle.serde_json.specs.View.{members_view}
+use Rattle.json_value.specs.Form.{with_front}
 use Rattle.saved_state.specs.Version1.{saved_from}
-use Rattle.saved_state.proofs.Saved.{with_front}
 use Rattle.saved_state.proofs.version_1.saved_from.Given as goal
 
 abbrev pub invariant-loop-name : goal.invariant-loop-name

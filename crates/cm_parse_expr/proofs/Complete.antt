@@ -1,13 +1,12 @@
 -- What is spelled is read.
-use Rattle.std.proofs.Common.{◌≡◌, ℕ, zero, suc, ◌+◌, ◌-◌, ◌<◌, ◌≤◌, max, Bool, true, false, cond, List, [], ◌∷◌, ◌++◌, length, Option, Some, None, Ok, Err, refl, ap, ◌∙◌, sym, append_assoc, lit≤, arith}
-use Rattle.std.proofs.lemmas.Bool.{le-leb, lt-leb}
+use Rattle.std.proofs.Common.{◌≡◌, ℕ, zero, suc, ◌+◌, ◌-◌, ◌<◌, ◌≤◌, Bool, true, false, List, [], ◌∷◌, ◌++◌, Option, Some, None, Ok, Err, refl, ap, ◌∙◌, sym, append_assoc, lit≤, arith}
+use Rattle.std.proofs.lemmas.Bool.{lt-leb}
 use Rattle.cm_base.specs.declared.place.Place.{Place}
 use Rattle.cm_tree.specs.declared.token.Token.{Token}
 use Rattle.cm_tree.specs.declared.token.TokenKind.{TokenKind}
 use Rattle.cm_tree.specs.declared.token.TokenKind.TheVariants as k
 use Rattle.cm_tree.specs.declared.sign.Sign.{Sign}
 use Rattle.cm_tree.specs.declared.sign.Sign.TheVariants as s
-use Rattle.cm_tree.specs.declared.reserved.Reserved.{Reserved}
 use Rattle.cm_tree.specs.declared.reserved.Reserved.TheVariants as w
 use Rattle.cm_tree.specs.declared.operator.Unary.{Unary}
 use Rattle.cm_tree.specs.declared.operator.Unary.TheVariants as u
@@ -19,20 +18,18 @@ use Rattle.cm_tree.specs.declared.expr.Expr.{Expr, end_of-Expr, more_of-Expr}
 use Rattle.cm_tree.specs.declared.expr.Base.{Base}
 use Rattle.cm_tree.specs.declared.expr.Expr.TheVariants as e
 use Rattle.cm_tree.specs.declared.expr.Base.TheVariants as b
-use Rattle.cm_tree.specs.declared.expr.Base.TheBlock.{hidden-the_row-Expr-0, hidden-the_row-Expr-1}
-use denote.Hole.Carrier.{hidden}
-use Rattle.cm_tree.specs.Lists.{highest, highest-cons}
-use Rattle.cm_tree.specs.Heights.{height, tallest, bracketed as with_brackets, sizes_height, sized, base_height, sized-is, height-Number, height-Truth, height-Name, height-Call, height-Construct, height-Paren, height-Field, height-Index, height-Unary, height-Binary, height-Choice, base_height-Wrap, base_height-Clamp}
-use Rattle.cm_tree.specs.Levels.{unary_sign, binary_sign, binds, level, place, sum_level, unary_level, post_level, ends_in_path}
+use Rattle.cm_tree.specs.Lists.{highest-cons}
+use Rattle.cm_tree.specs.Heights.{height, tallest, bracketed as with_brackets, sizes_height, sized, base_height, sized-is, height-Call, height-Construct, height-Paren, height-Field, height-Index, height-Unary, height-Binary, height-Choice, base_height-Wrap, base_height-Clamp}
+use Rattle.cm_tree.specs.Levels.{unary_sign, binary_sign, binds, level, place, sum_level, unary_level, post_level}
 use Rattle.cm_tree.specs.Spelling.{IsSign, IsReserved, IsWord, SpellsNames, SpellsPath, SpellsExpr, SpellsArgs, SpellsMore, SpellsSizes, SpellsBase}
 use Rattle.cm_tree.specs.Spelling as g
-use Rattle.token_reader.specs.Parsers.{Outcome, Parser, and_then, ◌>>=◌, ◌>>◌, ◌<$>◌, pure, look, skip, see, sees, expect, is_sign, is_reserved, same_sign, same_reserved}
-use Rattle.token_reader.specs.Lists.{name, while_sees, separated}
+use Rattle.token_reader.specs.Parsers.{Parser, ◌>>◌, look, see, sees, expect, is_sign, same_sign}
+use Rattle.token_reader.specs.Lists.{separated}
 use Rattle.token_reader.specs.Local.{Local, Takes}
 use Rattle.token_reader.proofs.Inverses.{skipped, seen, sees_ok, sign_is, sign_same, expected, named as name_there}
 use Rattle.token_reader.proofs.Locality.{local_bind, local_expect, takes_bind, takes_expect}
 use Rattle.token_reader.proofs.Parts.{Read, while_reads}
-use Rattle.cm_parse_expr.specs.Reading.{unary_of, colons, further_name, path, bracketed, sizes, args, limit, base_by, base, sized_base, construct_of, construct, call_if, named, paren, atom_by, atom, field, index, steps, post, operand_by, operand, climb, operation, choice, tail, binary, expr}
+use Rattle.cm_parse_expr.specs.Reading.{unary_of, colons, further_name, path, bracketed, sizes, args, limit, base_by, base, sized_base, construct_of, construct, named, paren, atom_by, atom, field, index, steps, post, operand_by, operand, climb, operation, choice, tail, binary, expr}
 use Rattle.cm_parse_expr.proofs.Reach.{local_further_name, takes_further_name, local_bracketed, takes_bracketed, local_expr, local_binary}
 use Rattle.cm_parse_expr.proofs.Turns.{steps_end, field_more, index_more, climb_stops, climb_looser, climb_more, binary_at, expr_at}
 use Rattle.cm_parse_expr.proofs.Next.{unary_is, unary_sign_of, operator_there, binds_some, binds_few, binds_of, next_binds, next_few, PathEnds, Settled, Closed, settled_as, closed_as, ends_in_path-Name, ends_in_path-Unary, ends_in_path-Binary, ends_in_path-Choice, closes, operator_settles, question_settles, question_no_operator, dot_ends_path, bracket_ends_path, bracket_no_dot, sign_seen}

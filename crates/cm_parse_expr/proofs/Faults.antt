@@ -1,12 +1,10 @@
 -- Where an expression is refused.
-use Rattle.std.proofs.Common.{◌≡◌, ℕ, ◌+◌, ◌<◌, ◌≤◌, List, [], ◌∷◌, ◌++◌, length, Option, Some, None, Ok, Err, refl, ap, subst, ◌∙◌, sym, append-nil, length-append, arith}
+use Rattle.std.proofs.Common.{◌≡◌, ℕ, ◌≤◌, List, [], ◌∷◌, ◌++◌, length, Ok, Err, refl, ap, subst, ◌∙◌, sym, append-nil, length-append, arith}
 use Rattle.cm_base.specs.declared.place.Place.{Place}
 use Rattle.cm_tree.specs.declared.token.Token.{Token}
 use Rattle.cm_tree.specs.declared.expr.Expr.{Expr}
-use Rattle.cm_tree.specs.Heights.{height}
 use Rattle.cm_tree.specs.Faults.{place_of}
-use Rattle.cm_tree.specs.ExprFaults.{IsExpr, NoExpr, IsExprFault}
-use Rattle.token_reader.specs.Parsers.{Outcome, Parser}
+use Rattle.cm_tree.specs.ExprFaults.{IsExpr, IsExprFault}
 use Rattle.token_reader.specs.Local.{LocalAt}
 use Rattle.token_reader.proofs.Inverses.{answer, ok_value, ok_rest}
 use Rattle.cm_parse_expr.specs.Reading.{expr}

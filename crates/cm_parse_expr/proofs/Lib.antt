@@ -5,3 +5,6 @@ pub mod Complete
 pub mod Sound
 pub mod Faults
 pub mod Types
+mod Kept
+mod Starting
+mod Public

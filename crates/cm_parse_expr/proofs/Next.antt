@@ -1,29 +1,26 @@
 -- What the next token is, and what it continues.
-use Rattle.std.proofs.Common.{◌≡◌, ℕ, zero, suc, ◌+◌, ◌<◌, ◌≤◌, Bool, true, false, List, [], ◌∷◌, ◌++◌, Option, Some, None, Ok, Err, refl, sym, ap, subst, ◌∙◌, lit≤, arith}
+use Rattle.std.proofs.Common.{◌≡◌, ℕ, ◌<◌, ◌≤◌, Bool, true, false, List, [], ◌∷◌, Option, Some, None, refl, ap, ◌∙◌, lit≤, arith}
 use Rattle.cm_base.specs.declared.place.Place.{Place}
 use Rattle.cm_tree.specs.declared.token.Token.{Token}
 use Rattle.cm_tree.specs.declared.token.TokenKind.{TokenKind}
 use Rattle.cm_tree.specs.declared.token.TokenKind.TheVariants as k
 use Rattle.cm_tree.specs.declared.sign.Sign.{Sign}
 use Rattle.cm_tree.specs.declared.sign.Sign.TheVariants as s
-use Rattle.cm_tree.specs.declared.reserved.Reserved.TheVariants as w
 use Rattle.cm_tree.specs.declared.operator.Unary.{Unary}
 use Rattle.cm_tree.specs.declared.operator.Unary.TheVariants as u
 use Rattle.cm_tree.specs.declared.operator.Binary.{Binary}
 use Rattle.cm_tree.specs.declared.operator.Binary.TheVariants as o
 use Rattle.cm_tree.specs.declared.expr.Expr.{Expr}
-use Rattle.cm_tree.specs.declared.expr.Base.{Base}
 use Rattle.cm_tree.specs.declared.expr.Expr.TheVariants as e
 use Rattle.cm_tree.specs.declared.expr.Base.TheBlock.{hidden-the_row-Expr-0, hidden-the_row-Expr-1}
 use denote.Hole.Carrier.{hidden}
 use Rattle.cm_tree.specs.declared.path.Path.{Path}
-use Rattle.cm_tree.specs.declared.path.Word.{Word}
 use Rattle.cm_tree.specs.Levels.{unary_sign, binary_sign, binds, ends_in_path}
 use Rattle.cm_tree.specs.Spelling.{IsSign}
 use Rattle.cm_tree.specs.ExprFaults.{Continues, operator as by_operator, choice as by_choice, field as by_field, index as by_index, call as by_call, name as by_name, Ends}
-use Rattle.token_reader.specs.Parsers.{is_sign, sees, same_sign, first}
-use Rattle.token_reader.proofs.Inverses.{seen, sign_same, sees_ok, sign_is}
-use Rattle.cm_parse_expr.specs.Reading.{unary_of, operator_of, operator_at, operator, colons}
+use Rattle.token_reader.specs.Parsers.{is_sign, sees, same_sign}
+use Rattle.token_reader.proofs.Inverses.{seen, sign_same, sign_is}
+use Rattle.cm_parse_expr.specs.Reading.{unary_of, operator_of, operator, colons}
 
 -- ---- operators and their signs
 

@@ -1,5 +1,5 @@
 -- No part of the reading looks past the token after what it reads.
-use Rattle.std.proofs.Common.{◌≡◌, ℕ, zero, suc, ◌+◌, ◌<◌, ◌≤◌, Bool, true, false, List, [], ◌∷◌, length, Option, Some, None, Ok, Err, refl, ap, inl, inr, arith}
+use Rattle.std.proofs.Common.{◌≡◌, ℕ, zero, suc, ◌+◌, ◌<◌, Bool, List, [], ◌∷◌, length, Option, Some, None, refl, ap, inl, inr, arith}
 use Rattle.std.specs.Prelude.{nat_lt, nat_le}
 use Rattle.cm_base.specs.declared.place.Place.{Place}
 use Rattle.cm_tree.specs.declared.token.Token.{Token}
@@ -15,13 +15,12 @@ use Rattle.cm_tree.specs.declared.expr.Expr.TheVariants as e
 use Rattle.cm_tree.specs.declared.expr.Base.{Base}
 use Rattle.cm_tree.specs.Heights.{height, sized}
 use Rattle.cm_tree.specs.Levels.{binds, place, sum_level, unary_level}
-use Rattle.token_reader.specs.Parsers.{Outcome, Parser, and_then, ◌>>=◌, ◌>>◌, ◌<$>◌, pure, refuse, look, skip, see, sees, expect, first, rest, is_sign, Turn, more, done, repeat}
-use Rattle.token_reader.specs.Lists.{name, while_sees, separated}
-use Rattle.token_reader.specs.Local.{Local, LocalAt, Takes}
+use Rattle.token_reader.specs.Parsers.{Parser, ◌>>=◌, ◌<$>◌, pure, skip, see, sees, first, is_sign, more, done}
+use Rattle.token_reader.specs.Local.{Local, Takes}
 use Rattle.token_reader.proofs.Loops.{Moves}
-use Rattle.token_reader.proofs.Inverses.{answer, bind_ok, if_ok, ok_value, ok_rest, skip_less, expect_ok}
+use Rattle.token_reader.proofs.Inverses.{answer, bind_ok, if_ok, ok_value, ok_rest, skip_less}
 use Rattle.token_reader.proofs.Locality.{local_pure, local_refuse, local_first, local_look, local_skip, local_see, local_expect, local_if, local_bind, local_repeat, local_name, local_while, local_separated, shrinks, takes_bind, takes_expect, takes_name}
-use Rattle.cm_parse_expr.specs.Reading.{operator_at, operator, see_operator, begins_base, colons, further_name, path, again, bracketed, sizes, args, limit, base_by, base_at, base, sized_base, construct_of, construct, call_if, named, paren, atom_by, atom_at, atom, field, index, index_if, field_if, step, steps, post, operand_by, operand_at, operand, turn_by, turn, climb, operation, choice, tail_if, tail, type_one, value_if, base_arg, arg_one, binary, expr, type_expr, arg}
+use Rattle.cm_parse_expr.specs.Reading.{operator_at, operator, see_operator, begins_base, colons, further_name, path, again, bracketed, sizes, args, limit, base_by, base_at, base, sized_base, construct_of, construct, call_if, named, paren, atom_by, atom_at, atom, field, index, index_if, field_if, step, steps, post, operand_by, operand_at, operand, turn_by, turn, climb, operation, choice, tail, type_one, value_if, base_arg, arg_one, binary, expr, type_expr, arg}
 
 pub local_see_operator : Local see_operator
 unfolding see_operator operator

@@ -1,5 +1,5 @@
 -- What is read is spelled.
-use Rattle.std.proofs.Common.{◌≡◌, ℕ, zero, suc, ◌+◌, ◌-◌, ◌<◌, ◌≤◌, max, Bool, true, false, cond, List, [], ◌∷◌, ◌++◌, length, Option, Some, None, Ok, Err, refl, ap, subst, ◌∙◌, sym, inl, inr, append_assoc, lit≤, arith}
+use Rattle.std.proofs.Common.{◌≡◌, ℕ, zero, suc, ◌+◌, ◌<◌, ◌≤◌, Bool, true, false, List, [], ◌∷◌, ◌++◌, length, Option, Some, None, Ok, refl, ap, subst, ◌∙◌, sym, inl, inr, append_assoc, lit≤, arith}
 use Rattle.std.specs.Prelude.{nat_lt, nat_le}
 use Rattle.std.proofs.lemmas.Bool.{ltb-true, ltb-false, leb-false}
 use Rattle.cm_base.specs.declared.place.Place.{Place}
@@ -17,22 +17,22 @@ use Rattle.cm_tree.specs.declared.expr.Expr.{Expr}
 use Rattle.cm_tree.specs.declared.expr.Base.{Base}
 use Rattle.cm_tree.specs.declared.expr.Expr.TheVariants as e
 use Rattle.cm_tree.specs.declared.expr.Base.TheVariants as b
-use Rattle.cm_tree.specs.Lists.{highest, highest-nil, highest-cons}
+use Rattle.cm_tree.specs.Lists.{highest-nil, highest-cons}
 use Rattle.cm_tree.specs.Heights.{height, tallest, bracketed as with_brackets, sizes_height, sized, base_height, sized-is, height-Number, height-Truth, height-Name, height-Call, height-Construct, height-Paren, height-Field, height-Index, height-Unary, height-Binary, height-Choice, base_height-Bool, base_height-Int, base_height-Int32, base_height-Int64, base_height-Wrap, base_height-Clamp}
-use Rattle.cm_tree.specs.Levels.{unary_sign, binary_sign, binds, level, place, sum_level, unary_level, post_level, ends_in_path}
+use Rattle.cm_tree.specs.Levels.{binary_sign, binds, level, place, sum_level, unary_level, post_level, ends_in_path}
 use Rattle.cm_tree.specs.Spelling.{IsSign, IsReserved, IsWord, SpellsNames, SpellsPath, SpellsExpr, SpellsArgs, SpellsMore, SpellsSizes, SpellsBase}
 use Rattle.cm_tree.specs.Spelling as g
-use Rattle.token_reader.specs.Parsers.{Outcome, Parser, and_then, ◌>>=◌, ◌>>◌, ◌<$>◌, pure, refuse, look, skip, see, sees, expect, first, rest, is_sign, Turn, more, done, goes, repeat}
+use Rattle.token_reader.specs.Parsers.{Parser, ◌>>=◌, ◌>>◌, ◌<$>◌, pure, look, skip, see, sees, expect, is_sign, Turn, more, done, goes}
 use Rattle.token_reader.specs.Lists.{name, while_sees, separated}
-use Rattle.token_reader.specs.Local.{Local, Takes}
+use Rattle.token_reader.specs.Local.{Takes}
 use Rattle.token_reader.proofs.Loops.{repeat-turn}
-use Rattle.token_reader.proofs.Inverses.{answer, bind_ok, if_ok, ok_value, ok_rest, given, skip_is, skip_less, sign_is, expect_ok, sees_ok, IsName, name_ok}
+use Rattle.token_reader.proofs.Inverses.{answer, bind_ok, if_ok, ok_rest, given, sign_is, expect_ok, IsName, name_ok}
 use Rattle.token_reader.proofs.Locality.{shrinks}
 use Rattle.token_reader.proofs.Parts.{Read, WhileOk, while_ok}
-use Rattle.cm_parse_expr.specs.Reading.{unary_of, operator_of, operator_at, operator, see_operator, colons, further_name, path, again, bracketed, sizes, args_unless, args, limit, base_by, base_at, base, sized_base, construct_of, construct, call_if, named, paren, atom_by, atom_at, atom, field, index, index_if, field_if, step, steps, post, operand_by, operand_at, operand, turn_by, turn, climb, operation, choice, tail_if, tail, binary, expr}
-use Rattle.cm_parse_expr.proofs.Reach.{local_further_name, takes_further_name, local_bracketed, takes_bracketed, local_expr, local_binary, local_field, local_index, takes_field, takes_index, moves_step, moves_turn}
+use Rattle.cm_parse_expr.specs.Reading.{unary_of, operator, see_operator, colons, further_name, path, again, bracketed, sizes, args_unless, args, limit, base_by, base, sized_base, construct_of, construct, call_if, named, paren, atom_by, atom, field, index, index_if, field_if, step, steps, post, operand_by, operand, turn_by, turn, climb, operation, choice, tail, binary, expr}
+use Rattle.cm_parse_expr.proofs.Reach.{local_further_name, takes_further_name, local_bracketed, takes_bracketed, local_expr, local_binary, takes_field, takes_index, moves_step, moves_turn}
 use Rattle.cm_parse_expr.proofs.Complete.{next_part, local_next, takes_next}
-use Rattle.cm_parse_expr.proofs.Next.{unary_sign_of, operator_sign_of, binds_some, binds_few, binds_of, next_binds, next_few, none_by, PathEnds, Settled, Closed, path_ends_as, settled_as, closed_as, ends_in_path-Unary, ends_in_path-Binary, ends_in_path-Choice, no_path}
+use Rattle.cm_parse_expr.proofs.Next.{unary_sign_of, operator_sign_of, binds_few, binds_of, next_binds, next_few, none_by, PathEnds, Settled, Closed, settled_as, closed_as, ends_in_path-Unary, ends_in_path-Binary, ends_in_path-Choice, no_path}
 
 -- ---- tokens
 

@@ -1,5 +1,5 @@
 -- The loops over steps and over operators, a turn at a time.
-use Rattle.std.proofs.Common.{◌≡◌, ℕ, zero, suc, ◌+◌, ◌<◌, ◌≤◌, Bool, true, false, List, [], ◌∷◌, Option, Some, None, Ok, Err, refl, ap, ◌∙◌, arith}
+use Rattle.std.proofs.Common.{◌≡◌, ℕ, zero, suc, ◌+◌, ◌<◌, ◌≤◌, Bool, true, false, List, Option, Some, None, Ok, Err, refl, ap, ◌∙◌, arith}
 use Rattle.std.proofs.lemmas.Bool.{lt-ltb, le-ltb, le-leb, lt-leb}
 use Rattle.cm_tree.specs.declared.token.Token.{Token}
 use Rattle.cm_tree.specs.declared.sign.Sign.TheVariants as s
@@ -8,7 +8,7 @@ use Rattle.cm_tree.specs.declared.expr.Expr.{Expr}
 use Rattle.cm_tree.specs.declared.expr.Expr.TheVariants as e
 use Rattle.cm_tree.specs.Heights.{height}
 use Rattle.cm_tree.specs.Levels.{binds, place}
-use Rattle.token_reader.specs.Parsers.{Outcome, Parser, and_then, ◌>>=◌, ◌>>◌, pure, skip, see, sees, is_sign, Turn, more, done, goes, repeat}
+use Rattle.token_reader.specs.Parsers.{and_then, ◌>>=◌, pure, skip, see, sees, is_sign, more}
 use Rattle.token_reader.proofs.Loops.{repeat-more, repeat-done, repeat-err}
 use Rattle.cm_parse_expr.specs.Reading.{operator, see_operator, again, field, index, index_if, field_if, step, steps, turn_by, turn, climb, operation, tail, binary, expr}
 use Rattle.cm_parse_expr.proofs.Reach.{local_expr, local_binary, moves_step, moves_turn}

@@ -1,7 +1,6 @@
 -- Types and arguments: what is spelled is read, and what is read is spelled.
-use Rattle.std.proofs.Common.{◌≡◌, ℕ, zero, suc, ◌+◌, ◌-◌, ◌<◌, ◌≤◌, max, Bool, true, false, cond, List, [], ◌∷◌, ◌++◌, length, Option, Some, None, Ok, Err, refl, ap, subst, ◌∙◌, sym, inl, inr, append_assoc, lit≤, arith}
+use Rattle.std.proofs.Common.{◌≡◌, ℕ, zero, suc, ◌+◌, ◌-◌, ◌≤◌, Bool, true, false, cond, List, ◌∷◌, ◌++◌, None, Ok, Err, refl, ap, ◌∙◌, sym, inl, inr, append_assoc, lit≤, arith}
 use Rattle.std.specs.Prelude.{nat_le}
-use Rattle.cm_base.specs.declared.place.Place.{Place}
 use Rattle.cm_tree.specs.declared.token.Token.{Token}
 use Rattle.cm_tree.specs.declared.token.TokenKind.{TokenKind}
 use Rattle.cm_tree.specs.declared.token.TokenKind.TheVariants as k
@@ -15,17 +14,17 @@ use Rattle.cm_tree.specs.declared.type_expr.TypeExpr.{TypeExpr}
 use Rattle.cm_tree.specs.declared.type_expr.TypeExpr.TheVariants as y
 use Rattle.cm_tree.specs.declared.type_expr.Arg.{Arg}
 use Rattle.cm_tree.specs.declared.type_expr.Arg.TheVariants as v
-use Rattle.cm_tree.specs.Heights.{height, sizes_height, sized, base_height, sized-is, base_height-Bool, base_height-Int, base_height-Int32, base_height-Int64, base_height-Wrap, base_height-Clamp}
+use Rattle.cm_tree.specs.Heights.{sizes_height, sized, base_height, sized-is, base_height-Bool, base_height-Int, base_height-Int32, base_height-Int64, base_height-Wrap, base_height-Clamp}
 use Rattle.cm_tree.specs.StmtHeights.{type_height, arg_height}
-use Rattle.cm_tree.specs.Levels.{post_level, unary_level}
+use Rattle.cm_tree.specs.Levels.{unary_level}
 use Rattle.cm_tree.specs.Spelling.{IsSign, SpellsPath, SpellsExpr, SpellsSizes, SpellsBase, SpellsType, SpellsArg}
 use Rattle.cm_tree.specs.Spelling as g
-use Rattle.token_reader.specs.Parsers.{Outcome, Parser, and_then, ◌>>=◌, ◌>>◌, ◌<$>◌, pure, look, see, sees, expect, is_sign, same_sign}
+use Rattle.token_reader.specs.Parsers.{Outcome, Parser, and_then, ◌>>=◌, ◌<$>◌, pure, see, sees, expect, is_sign, same_sign}
 use Rattle.token_reader.proofs.Inverses.{answer, bind_ok, if_ok, given, seen, sees_ok}
-use Rattle.cm_parse_expr.specs.Reading.{begins_base, unary_of, colons, path, sizes, args, sized_base, construct_of, construct, atom_by, atom, steps, post, operand, climb, operation, tail, base_type, named_type, type_if, type_one, value_if, base_arg, arg_if, arg_one, binary, expr, type_expr, arg}
-use Rattle.cm_parse_expr.proofs.Next.{Closed, ends_in_path-Name}
-use Rattle.cm_parse_expr.proofs.Complete.{no_other, path_read, read, read_sizes, read_base, sized_base_read, height_some, atom_is, operand_is}
-use Rattle.cm_parse_expr.proofs.Sound.{PathGiven, path_sound, SizesGiven, sizes_sound, SizedGiven, sized_base_sound, Gives, Atom, Part, Operand, Sentence, construct_by, steps_sound, climb_sound, tail_sound, expr_sound, binary_sound, after_same}
+use Rattle.cm_parse_expr.specs.Reading.{begins_base, unary_of, colons, path, sizes, args, sized_base, construct_of, construct, atom, steps, post, climb, operation, tail, type_one, value_if, base_arg, arg_if, arg_one, binary, expr, type_expr, arg}
+use Rattle.cm_parse_expr.proofs.Next.{Closed}
+use Rattle.cm_parse_expr.proofs.Complete.{no_other, path_read, read, read_sizes, read_base, sized_base_read, atom_is, operand_is}
+use Rattle.cm_parse_expr.proofs.Sound.{path_sound, sizes_sound, SizedGiven, sized_base_sound, Part, Sentence, construct_by, steps_sound, climb_sound, tail_sound, expr_sound, binary_sound, after_same}
 
 -- ---- the first token of a type
 

@@ -1,1 +1,4 @@
 pub mod Reading
+pub mod Starts
+pub mod Tallness
+pub mod Answer

@@ -1,5 +1,5 @@
 -- Expressions and types as parsers on token lists, read from left to right. A number is how high what is read may be.
-use Rattle.std.specs.Prelude.{◌≡◌, ℕ, zero, suc, ◌+◌, Bool, true, false, if◌then◌else◌, nat_lt, nat_le, List, [], ◌∷◌, Option, Some, None, Ok}
+use Rattle.std.specs.Prelude.{ℕ, zero, suc, ◌+◌, Bool, true, false, if◌then◌else◌, nat_lt, nat_le, List, [], ◌∷◌, Option, Some, None, Ok}
 use Rattle.cm_base.specs.declared.place.Place.{Place}
 use Rattle.cm_tree.specs.declared.token.Token.{Token}
 use Rattle.cm_tree.specs.declared.token.TokenKind.{TokenKind}

@@ -58,7 +58,7 @@ pub local_end_name : (n : ℕ) → Local (Members.end_name n)
 unfolding Members.end_name
 local_end_name n = local_bind local_word (λ name. local_bind (local_keys n) (λ all. local_pure _))
 
-local_end_names : (n : ℕ) (p : Place) (which : Kind) (ty : TypeExpr) → Local (Members.end_names n p which ty)
+pub local_end_names : (n : ℕ) (p : Place) (which : Kind) (ty : TypeExpr) → Local (Members.end_names n p which ty)
 unfolding Members.end_names
 local_end_names n p which ty = local_bind (local_separated _ (Members.end_name n) (local_end_name n)) (λ names. local_semicolon _)
 
@@ -127,7 +127,7 @@ local_void n p = local_bind local_word (local_function_of n p None)
 
 -- ---- nodes and connections
 
-local_node_args : (n : ℕ) → Local (Members.args n)
+pub local_node_args : (n : ℕ) → Local (Members.args n)
 unfolding Members.args
 local_node_args n = local_bind (local_see _) (λ b. local_if b (local_bind (local_bind local_skip (λ _. local_separated _ (arg n) (local_arg n))) (λ all. local_bind (local_expect _) (λ _. local_pure _))) (local_pure _))
 

@@ -59,7 +59,7 @@ pub record SpellsBracket (n : ℕ) (q : Place × Expr) (u : List Token) : Type 0
 abbrev inside : ℕ → Place → Parser (Place × Expr)
 inside n p = expect (is_sign s.LeftBracket) >> expr (n - 1) >>= (λ e. expect (is_sign s.RightBracket) >> pure (p, e))
 
-head_same : (t v : Token) (a b : List Token) → t ∷ a ≡ v ∷ b → t ≡ v
+pub head_same : (t v : Token) (a b : List Token) → t ∷ a ≡ v ∷ b → t ≡ v
 head_same t v a b same = let firsts : Some t ≡ Some v = ap first same in cc
 
 bracket_found : (n : ℕ) (ts : List Token) (q : Place × Expr) (r : List Token) → bracket n ts ≡ answer q r → Found (SpellsBracket n) Any ts q r
@@ -121,7 +121,7 @@ meets_dotted = meets_after s.Dot meets_word
 field_of : {w : Word} {u v : List Token} → SpellsWord w v → (dot : Token) → IsSign s.Dot dot → u ≡ dot ∷ v → SpellsStep (st.Field w) u
 field_of (g.word w t is) dot opens parts = subst (SpellsStep (st.Field w)) (sym parts) (g.field w dot t opens is)
 
-index_of : (n : ℕ) (q : Place × Expr) (u : List Token) → SpellsBracket n q u → SpellsStep (index q) u
+pub index_of : (n : ℕ) (q : Place × Expr) (u : List Token) → SpellsBracket n q u → SpellsStep (index q) u
 index_of n q u h =
     subst (λ (p : Place). SpellsStep (st.Index p q.1) u) h.place (subst (SpellsStep (st.Index h.opening.place q.1)) (sym h.parts) (g.index q.1 h.opening h.closing h.inner h.opens h.spelled h.closes))
 

@@ -5,4 +5,4 @@ mod begun;
 mod laws;
 
 pub use begun::Begun;
-pub use laws::reads_no_further;
+pub use laws::{reads_files, reads_no_further};

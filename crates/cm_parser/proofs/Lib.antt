@@ -1,0 +1,4 @@
+mod Nexts
+mod StmtStarts
+mod DeclStarts
+pub mod FileLemmas

@@ -1,0 +1,9 @@
+use Rattle.std.proofs.Common.{◌≡◌, ◌++◌, map, reverse, length}
+use Rattle.file_grammar.specs.Simples.{second}
+use Rattle.cm_parser.proofs.indices.sizes_of.Given as goal
+
+abbrev pub invariant-loop-place : goal.invariant-loop-place
+invariant-loop-place l = l.found ++ map second (reverse l.left) ≡ map second l.fn.indices
+
+abbrev pub decreases-loop-place : goal.decreases-loop-place
+decreases-loop-place l = length l.left

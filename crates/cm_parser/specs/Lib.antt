@@ -1,0 +1,4 @@
+pub mod Parts
+pub mod StmtStarts
+pub mod DeclStarts
+pub mod Answer

@@ -98,6 +98,7 @@ pub record IsConsistent (p : Program) : Type 0 where
   pub host_count : length p.host ≡ length (node_at p p.main).ends
   pub host : (k : ℕ) (d : HostEnd) (e : EndId) → k < length p.host
       → IsHostEnd (slice_index_or p.host k d) (end_at p (slice_index_or (node_at p p.main).ends k e))
+  pub latencies : All (λ unit. unit.latency ≤ 65536) p.units
   pub few_nodes : length p.nodes ≤ 16384
   pub few_links : length p.links ≤ 262144
   pub few_ends : length p.ends < 2 ^ 32

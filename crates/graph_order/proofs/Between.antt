@@ -9,7 +9,8 @@ use Rattle.cm_core.specs.declared.flat.Flat.{Flat}
 use Rattle.cm_core.specs.declared.flat.Chain.{Chain}
 use Rattle.graph_search.specs.Edges.{AreWithin, IsBefore as IsEdge}
 use Rattle.graph_search.specs.declared.edges.Edge.{Edge}
-use Rattle.graph_order.specs.Before.{IsLeafBelow, NamesLeaves, is_of, leads, IsBefore}
+use Rattle.cm_core.specs.Flats.{IsLeafBelow, NamesLeaves}
+use Rattle.graph_order.specs.Before.{is_of, leads, IsBefore}
 use Rattle.graph_order.specs.Edges.{edge_between, edge_of}
 
 abbrev pub joins : ℕ → ℕ → Edge → Bool

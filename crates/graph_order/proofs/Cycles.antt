@@ -5,7 +5,7 @@ use Rattle.std.proofs.lemmas.Bool.{cases_lt}
 use Rattle.std.proofs.lemmas.List.Elements.{All-from_get_or}
 use Rattle.cm_core.specs.declared.flat.Flat.{Flat}
 use Rattle.graph_search.specs.Orders.{IsCycle as IsEdgeCycle, IsAcyclic as IsEdgeAcyclic}
-use Rattle.graph_order.specs.Before.{NamesLeaves}
+use Rattle.cm_core.specs.Flats.{NamesLeaves}
 use Rattle.graph_order.specs.Cycle.{IsCycle, IsAcyclic}
 use Rattle.graph_order.specs.Edges.{edge_of}
 use Rattle.graph_order.proofs.Between.{before_from_edge, edge_from_before, before_below}

@@ -1,18 +1,9 @@
 -- Which leaf of a flat graph is before which: docs/LANGUAGE.md, "Graphs".
-use Rattle.std.specs.Prelude.{ℕ, Bool, true, false, ◌≡◌, ◌<◌, ◌==◌, ◌&&◌, List, All, Option, Some, None, length, map}
+use Rattle.std.specs.Prelude.{ℕ, Bool, true, false, ◌≡◌, ◌==◌, ◌&&◌, List, Option, Some, None, map}
 use Rattle.std.specs.List.{list_any}
 use Rattle.cm_base.specs.declared.place.LeafId.{LeafId}
 use Rattle.cm_core.specs.declared.flat.Flat.{Flat}
 use Rattle.cm_core.specs.declared.flat.Chain.{Chain}
-
--- the leaves of the chains are leaves of the graph
-abbrev pub IsLeafBelow : ℕ → Option LeafId → Type 0
-IsLeafBelow n None = Unit {0}
-IsLeafBelow n (Some leaf) = leaf.0 < n
-
-abbrev pub NamesLeaves : Flat → Type 0
-NamesLeaves flat =
-    All (λ chain. IsLeafBelow (length flat.leaves) chain.from.leaf × IsLeafBelow (length flat.leaves) chain.to.leaf) flat.chains
 
 -- whether a point is one of this leaf, and not of another or of the host
 abbrev pub is_of : ℕ → Option LeafId → Bool

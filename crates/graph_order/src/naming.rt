@@ -1,5 +1,5 @@
 ghost use Rattle.std.specs.Prelude.{◌≡◌, ◌<◌, ◌↔◌, IsTrue, length};
-ghost use Rattle.graph_order.specs.Before.{IsLeafBelow, NamesLeaves};
+ghost use Rattle.cm_core.specs.Flats.{IsLeafBelow, NamesLeaves};
 
 use cm_core::{Flat, Point};
 

@@ -1,5 +1,6 @@
 ghost use Rattle.std.specs.Prelude.{◌≡◌, ◌<◌, ◌^◌, OnOk, IfOk, IfErr, length};
-ghost use Rattle.graph_order.specs.Before.{NamesLeaves, numbers as numbers_of};
+ghost use Rattle.cm_core.specs.Flats.{NamesLeaves};
+ghost use Rattle.graph_order.specs.Before.{numbers as numbers_of};
 ghost use Rattle.graph_order.specs.Order.{IsOrder};
 ghost use Rattle.graph_order.specs.Cycle.{IsAcyclic, IsFault};
 

@@ -1,5 +1,6 @@
 ghost use Rattle.std.specs.Prelude.{◌≡◌, ◌<◌, All, IfOk, length, map};
-ghost use Rattle.graph_order.specs.Before.{IsBefore, NamesLeaves, leads};
+ghost use Rattle.cm_core.specs.Flats.{NamesLeaves};
+ghost use Rattle.graph_order.specs.Before.{IsBefore, leads};
 ghost use Rattle.graph_order.specs.Cycle.{IsCycle, IsPlaceBetween, IsRefusalBy, path_of};
 
 use cm_base::{Cause, LeafId, Name, Names, Place, Refused};

@@ -10,7 +10,7 @@ use Rattle.cm_base.specs.declared.place.LeafId.{LeafId}
 use Rattle.cm_core.specs.declared.flat.Flat.{Flat}
 use Rattle.cm_core.specs.declared.flat.Chain.{Chain}
 use Rattle.cm_core.specs.declared.filled.Filled.{Filled}
-use Rattle.graph_order.specs.Before.{IsLeafBelow, NamesLeaves}
+use Rattle.cm_core.specs.Flats.{IsLeafBelow, NamesLeaves}
 use Rattle.latency_fill.specs.Walks.{is_timed, leaf_of, same_leaf, feeds, Feeds, latency_of, IsSumOfWalk, IsArrival}
 use Rattle.latency_fill.specs.Fills.{arrival_at, departure_at, arrives, departs, extra_of, IsFill, Fits, OthersHaveNone, IsAttained, IsLeast}
 use Rattle.latency_fill.proofs.Summing.{arrival_fits, walk_below}

@@ -11,9 +11,10 @@ use Rattle.cm_base.specs.declared.place.LeafId.{LeafId}
 use Rattle.cm_core.specs.declared.flat.Flat.{Flat}
 use Rattle.cm_core.specs.declared.flat.Leaf.{Leaf}
 use Rattle.graph_search.specs.Edges.{member}
-use Rattle.graph_order.specs.Before.{numbers, NamesLeaves}
+use Rattle.cm_core.specs.Flats.{IsSmall, NamesLeaves}
+use Rattle.graph_order.specs.Before.{numbers}
 use Rattle.graph_order.specs.Order.{IsOrder, IsOrderOf}
-use Rattle.latency_fill.specs.Walks.{latency_in, latency_of, Feeds, IsArrival, IsSmall}
+use Rattle.latency_fill.specs.Walks.{latency_in, latency_of, Feeds, IsArrival}
 use Rattle.latency_fill.specs.Edges.{timed_edge, sources, host_source}
 use Rattle.latency_fill.proofs.Sources.{feeds_from_source, source_from_feeds, before_from_feeds, feeds_host, host_source_from_feeds, feeds_below}
 use Rattle.latency_fill.proofs.Summing.{arrival_is}

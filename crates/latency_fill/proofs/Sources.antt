@@ -10,7 +10,8 @@ use Rattle.cm_core.specs.declared.flat.Flat.{Flat}
 use Rattle.cm_core.specs.declared.flat.Chain.{Chain}
 use Rattle.graph_search.specs.Edges.{AreWithin, member}
 use Rattle.graph_search.specs.declared.edges.Edge.{Edge}
-use Rattle.graph_order.specs.Before.{IsLeafBelow, NamesLeaves, IsBefore, is_of, leads}
+use Rattle.cm_core.specs.Flats.{IsLeafBelow, NamesLeaves}
+use Rattle.graph_order.specs.Before.{IsBefore, is_of, leads}
 use Rattle.latency_fill.specs.Walks.{is_timed, leaf_of, same_leaf, feeds, Feeds}
 use Rattle.latency_fill.specs.Edges.{edge_between, timed_edge, sources, source_between, host_source}
 

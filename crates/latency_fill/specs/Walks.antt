@@ -1,15 +1,11 @@
 -- When what leaves a leaf arrives: docs/LANGUAGE.md, "Graphs".
-use Rattle.std.specs.Prelude.{ℕ, Bool, true, false, ◌≡◌, ◌≤◌, ◌==◌, ◌&&◌, List, [], ◌∷◌, All, Option, Some, None, length, map, slice_index, sum_by}
+use Rattle.std.specs.Prelude.{ℕ, Bool, true, false, ◌≡◌, ◌≤◌, ◌==◌, ◌&&◌, List, [], ◌∷◌, Option, Some, None, map, slice_index, sum_by}
 use Rattle.std.specs.List.{list_any}
 use Rattle.cm_base.specs.Parts.{is_stream}
 use Rattle.cm_base.specs.declared.place.LeafId.{LeafId}
 use Rattle.cm_core.specs.declared.flat.Flat.{Flat}
 use Rattle.cm_core.specs.declared.flat.Chain.{Chain}
 use Rattle.cm_core.specs.declared.flat.Leaf.{Leaf}
-
--- at most this many leaves, of at most this latency each
-abbrev pub IsSmall : Flat → Type 0
-IsSmall flat = (length flat.leaves ≤ 4096) × All (λ leaf. leaf.latency ≤ 65536) flat.leaves
 
 -- latencies are made equal along undelayed chains of streams
 abbrev pub is_timed : Chain → Bool

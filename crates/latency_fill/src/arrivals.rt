@@ -1,9 +1,9 @@
 ghost use Rattle.std.specs.Prelude.{◌≡◌, ◌+◌, ◌<◌, ◌≤◌, ◌⊎◌, ℕ, true, All, IfOk, [], length, slice_index, vec_len};
 ghost use Rattle.std.specs.List.{filter_map};
 ghost use Rattle.graph_search.specs.Edges.{AreWithin, member};
-ghost use Rattle.graph_order.specs.Before.{NamesLeaves};
+ghost use Rattle.cm_core.specs.Flats.{IsSmall, NamesLeaves};
 ghost use Rattle.graph_order.specs.Order.{IsOrder};
-ghost use Rattle.latency_fill.specs.Walks.{IsArrival, IsSmall, latency_in};
+ghost use Rattle.latency_fill.specs.Walks.{IsArrival, latency_in};
 ghost use Rattle.latency_fill.specs.Edges.{AreSources, timed_edge};
 
 use crate::chains::host_sources;

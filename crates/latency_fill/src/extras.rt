@@ -1,6 +1,6 @@
 ghost use Rattle.std.specs.Prelude.{◌≡◌, ◌≤◌, ℕ, true, All, IfOk, length, map, slice_index};
-ghost use Rattle.graph_order.specs.Before.{IsLeafBelow, NamesLeaves};
-ghost use Rattle.latency_fill.specs.Walks.{IsSmall, is_timed as is_timed_chain, leaf_of};
+ghost use Rattle.cm_core.specs.Flats.{IsLeafBelow, IsSmall, NamesLeaves};
+ghost use Rattle.latency_fill.specs.Walks.{is_timed as is_timed_chain, leaf_of};
 ghost use Rattle.latency_fill.specs.Fills.{arrival_at, arrives, departs, departure_at, extra_of};
 
 use crate::chains::is_timed;

@@ -1,7 +1,6 @@
 ghost use Rattle.std.specs.Prelude.{IfOk};
-ghost use Rattle.graph_order.specs.Before.{NamesLeaves};
+ghost use Rattle.cm_core.specs.Flats.{IsSmall, NamesLeaves};
 ghost use Rattle.graph_order.specs.Order.{IsOrder};
-ghost use Rattle.latency_fill.specs.Walks.{IsSmall};
 ghost use Rattle.latency_fill.specs.Fills.{Fits, IsAttained, IsFill, IsLeast, OthersHaveNone};
 
 use crate::arrivals::{arrivals, host_arrival, sources_of};

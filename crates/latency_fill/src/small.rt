@@ -1,5 +1,5 @@
 ghost use Rattle.std.specs.Prelude.{◌↔◌, IsTrue};
-ghost use Rattle.latency_fill.specs.Walks.{IsSmall};
+ghost use Rattle.cm_core.specs.Flats.{IsSmall};
 
 use cm_base::limits::{LATENCY, LEAVES};
 use cm_core::Flat;

@@ -15,7 +15,8 @@ use Rattle.cm_core.specs.Tree.{no_node, node_at, leaves_of, leaves_below, leaf_n
 use Rattle.cm_core.specs.Expanded.{no_group, group_at, picked, is_spread, end_id, ends_of, delay_of, pairs, connection_of, expanded, connections}
 use Rattle.cm_core.specs.Consistent.{IsConsistent, IsNode, IsGroup, IsSide, IsLink, HasBody}
 use Rattle.cm_core.specs.GraphFaults.{IsDelay}
-use Rattle.graph_flat.specs.Sound.{IsSoundLink, IsWithin}
+use Rattle.graph_flat.specs.Paths.{IsBelow}
+use Rattle.graph_flat.specs.Sound.{IsSoundLink}
 use Rattle.std.proofs.lemmas.Int.{ints}
 use Rattle.graph_flat.proofs.SoundLinks.{sound_delay}
 
@@ -99,13 +100,13 @@ low_delay None h = omega arith
 low_delay (Some (pos n)) h = let u = h.1 in omega (arith, ints, u)
 low_delay (Some (negsuc n)) h = omega arith
 
-expanded_there : (p : Program) → IsConsistent p → (l : Link) → IsLink p l → IsSoundLink p l → All (IsWithin p) (expanded p l)
-expanded_there p c l h s = All-map (IsWithin p) (connection_of l) (pairs (is_spread p l.from && is_spread p l.to) (ends_of p l.from) (ends_of p l.to))
-    (all_pairs (λ (e : EndId). e.0 < length p.ends) (λ (ends : EndId × EndId). IsWithin p (connection_of l ends))
+expanded_there : (p : Program) → IsConsistent p → (l : Link) → IsLink p l → IsSoundLink p l → All (IsBelow (length p.ends)) (expanded p l)
+expanded_there p c l h s = All-map (IsBelow (length p.ends)) (connection_of l) (pairs (is_spread p l.from && is_spread p l.to) (ends_of p l.from) (ends_of p l.to))
+    (all_pairs (λ (e : EndId). e.0 < length p.ends) (λ (ends : EndId × EndId). IsBelow (length p.ends) (connection_of l ends))
     (λ x y a b. record { from = a; to = b; delay = low_delay l.delay (sound_delay p l s) })
     (is_spread p l.from && is_spread p l.to) (ends_of p l.from) (ends_of p l.to) (side_there p c l.from h.from) (side_there p c l.to h.to))
 
 -- the connections are there
-pub connections_there : (p : Program) → IsConsistent p → All (IsSoundLink p) p.links → All (IsWithin p) (connections p)
-connections_there p c s = all_pieces (λ (l : Link). IsLink p l × IsSoundLink p l) (IsWithin p) (expanded p) p.links
+pub connections_there : (p : Program) → IsConsistent p → All (IsSoundLink p) p.links → All (IsBelow (length p.ends)) (connections p)
+connections_there p c s = all_pieces (λ (l : Link). IsLink p l × IsSoundLink p l) (IsBelow (length p.ends)) (expanded p) p.links
     (λ l h. expanded_there p c l h.0 h.1) (λ k d lt. (c.links k d lt, s k d lt))

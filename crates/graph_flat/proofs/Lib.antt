@@ -6,3 +6,12 @@ pub mod Every
 pub mod Owners
 pub mod Routing
 pub mod Counting
+pub mod Leaps
+pub mod Searches
+pub mod WireLoops
+pub mod Apart
+pub mod Ready
+pub mod Faults
+pub mod Chained
+pub mod Sounds
+pub mod Small

@@ -1,18 +1,18 @@
 -- A search for routes: what it has on its stack, and what it finds.
-use Rattle.std.proofs.Common.{◌≡◌, ℕ, ◌+◌, ◌*◌, ◌<◌, ◌≤◌, Bool, true, false, cond, List, [], ◌∷◌, ◌++◌, length, get_or, reverse, refl, ap, ◌∙◌, sym, arith, append_assoc, length-append, append-nil, All, zero, suc, subst}
+use Rattle.std.proofs.Common.{◌≡◌, ℕ, ◌+◌, ◌<◌, ◌≤◌, Bool, true, false, cond, List, [], ◌∷◌, ◌++◌, length, reverse, refl, ap, ◌∙◌, sym, arith, append_assoc, length-append, append-nil, zero, suc, subst}
 use Rattle.std.specs.Prelude.{◌==◌, map, filter, sum_by, Contains}
 use Rattle.std.specs.List.{flat_map}
-use Rattle.std.proofs.lemmas.List.{reverse-append, reverse-reverse, map-append, length-reverse}
+use Rattle.std.proofs.lemmas.List.{reverse-append, map-append, length-reverse}
 use Rattle.std.proofs.lemmas.List.Concat.{flat_map-append}
 use Rattle.std.proofs.lemmas.List.Folds.{flat_map-map}
-use Rattle.std.proofs.lemmas.List.Sums.{sum_by-cons, sum_by-append}
+use Rattle.std.proofs.lemmas.List.Sums.{sum_by-cons}
 use Rattle.std.proofs.lemmas.Bool.{eqb-true}
 use Rattle.cm_base.specs.declared.place.EndId.{EndId}
 use Rattle.cm_core.specs.declared.link.Connection.{Connection}
 use Rattle.cm_core.specs.Tree.{is_among}
 use Rattle.cm_core.specs.Routes.{Route, last_of, with_first, leaving, routes_by, routes_from}
 use Rattle.graph_flat.specs.declared.paths.Path.{Path}
-use Rattle.graph_flat.specs.Paths.{first_path, extended, delay_sum, path_of, joined, completed, paths_on, steps_by, steps_from, Falls}
+use Rattle.graph_flat.specs.Paths.{first_path, extended, delay_sum, path_of, with_route, completed, paths_on, steps_by, steps_from, Falls}
 use Rattle.graph_flat.proofs.Stack.{contains_here, contains_more}
 
 one_kept : {X A : Type 0} (f g : X → List A) (b : Bool) (x : X) (xs : List X) → (b ≡ true → f x ≡ g x) → flat_map f xs ≡ flat_map g xs → flat_map f (cond b (x ∷ xs) xs) ≡ flat_map g (cond b (x ∷ xs) xs)
@@ -50,7 +50,7 @@ rank_next : (cs : List Connection) (n : ℕ) (rank : ℕ → ℕ) → Falls cs n
 rank_next cs n rank h e c m t = subst (λ (k : ℕ). rank c.to.0 < rank k) (eqb-true c.from.0 e.0 t) (h.falls c m)
 
 -- one more connection adds no route
-stable : (cs : List Connection) (goals : List EndId) (n : ℕ) (rank : ℕ → ℕ) → Falls cs n rank → (d : ℕ) (e : EndId) → rank e.0 ≤ d → routes_from cs goals (suc d) e ≡ routes_from cs goals d e
+pub stable : (cs : List Connection) (goals : List EndId) (n : ℕ) (rank : ℕ → ℕ) → Falls cs n rank → (d : ℕ) (e : EndId) → rank e.0 ≤ d → routes_from cs goals (suc d) e ≡ routes_from cs goals d e
 stable cs goals n rank h zero e le =
     ap (flat_map (λ (c : Connection). routes_by (is_among c.to goals) c [])) (none_kept (λ (c : Connection). c.from.0 == e.0) cs (λ c m t. let l = rank_next cs n rank h e c m t in omega (arith, l, le)))
 stable cs goals n rank h (suc d) e le =
@@ -68,23 +68,23 @@ steady cs goals n rank h (suc d) e le =
     steps_goal (is_among e goals) _ _ (summed_agree (λ (c : Connection). steps_from cs goals (suc d) c.to) (λ (c : Connection). steps_from cs goals d c.to) (λ (c : Connection). c.from.0 == e.0) cs
     (λ c m t. steady cs goals n rank h d c.to (let l = rank_next cs n rank h e c m t in omega (arith, l, le))))
 
-pieces_mapped : {A B C : Type 0} (f : B → C) (g : A → List B) (xs : List A) → map f (flat_map g xs) ≡ flat_map (λ x. map f (g x)) xs
+pub pieces_mapped : {A B C : Type 0} (f : B → C) (g : A → List B) (xs : List A) → map f (flat_map g xs) ≡ flat_map (λ x. map f (g x)) xs
 pieces_mapped f g [] = refl
 pieces_mapped {A} {B} {C} f g (x ∷ xs) = map-append f (g x) (flat_map g xs) ∙ ap (λ (ys : List C). map f (g x) ++ ys) (pieces_mapped f g xs)
 
-pieces_agree : {A B : Type 0} (f g : A → List B) (xs : List A) → ((x : A) → f x ≡ g x) → flat_map f xs ≡ flat_map g xs
+pub pieces_agree : {A B : Type 0} (f g : A → List B) (xs : List A) → ((x : A) → f x ≡ g x) → flat_map f xs ≡ flat_map g xs
 pieces_agree f g [] h = refl
 pieces_agree f g (x ∷ xs) h = let a = h x in let b = pieces_agree f g xs h in rw (a, b) refl
 
-pieces_of_pieces : {A B C : Type 0} (f : B → List C) (g : A → List B) (xs : List A) → flat_map f (flat_map g xs) ≡ flat_map (λ x. flat_map f (g x)) xs
+pub pieces_of_pieces : {A B C : Type 0} (f : B → List C) (g : A → List B) (xs : List A) → flat_map f (flat_map g xs) ≡ flat_map (λ x. flat_map f (g x)) xs
 pieces_of_pieces f g [] = refl
 pieces_of_pieces {A} {B} {C} f g (x ∷ xs) = flat_map-append f (g x) (flat_map g xs) ∙ ap (λ (ys : List C). flat_map f (g x) ++ ys) (pieces_of_pieces f g xs)
 
-map_agree : {A B : Type 0} (f g : A → B) (xs : List A) → ((x : A) → f x ≡ g x) → map f xs ≡ map g xs
+pub map_agree : {A B : Type 0} (f g : A → B) (xs : List A) → ((x : A) → f x ≡ g x) → map f xs ≡ map g xs
 map_agree f g [] h = refl
 map_agree f g (x ∷ xs) h = let a = h x in let b = map_agree f g xs h in rw (a, b) refl
 
-map_twice : {A B C : Type 0} (f : B → C) (g : A → B) (xs : List A) → map f (map g xs) ≡ map (λ x. f (g x)) xs
+pub map_twice : {A B C : Type 0} (f : B → C) (g : A → B) (xs : List A) → map f (map g xs) ≡ map (λ x. f (g x)) xs
 map_twice f g [] = refl
 map_twice {A} {B} {C} f g (x ∷ xs) = ap (λ (ys : List C). f (g x) ∷ ys) (map_twice f g xs)
 
@@ -94,30 +94,30 @@ delay_alone c = sum_by-cons (λ (c : Connection). c.delay) c [] ∙ (let z : c.d
 delay_more : (c : Connection) (r : Route) → delay_sum (with_first c r) ≡ c.delay + delay_sum r
 delay_more c r = sum_by-cons (λ (c : Connection). c.delay) c (r.first ∷ r.others)
 
-join_more : (x : Path) (c : Connection) (r : Route) → joined x (with_first c r) ≡ joined (extended x c) r
+join_more : (x : Path) (c : Connection) (r : Route) → with_route x (with_first c r) ≡ with_route (extended x c) r
 join_more x c r =
     let e : x.delay + delay_sum (with_first c r) ≡ (x.delay + c.delay) + delay_sum r = (let d = delay_more c r in omega (arith, d)) in
     ap (λ (k : ℕ). let y : Path = record { from = x.from; to = (last_of r).to; delay = k; first = x.first; last = (last_of r).place } in y) e
 
-join_by : (b : Bool) (x : Path) (c : Connection) (rs : List Route) → map (joined x) (routes_by b c rs) ≡ completed b (extended x c) rs
+join_by : (b : Bool) (x : Path) (c : Connection) (rs : List Route) → map (with_route x) (routes_by b c rs) ≡ completed b (extended x c) rs
 join_by true x c rs =
     ap (λ (k : ℕ). let y : Path = record { from = x.from; to = c.to; delay = x.delay + k; first = x.first; last = c.place } in y ∷ []) (delay_alone c)
-join_by false x c rs = map_twice (joined x) (with_first c) rs ∙ map_agree (λ (r : Route). joined x (with_first c r)) (joined (extended x c)) rs (join_more x c)
+join_by false x c rs = map_twice (with_route x) (with_first c) rs ∙ map_agree (λ (r : Route). with_route x (with_first c r)) (with_route (extended x c)) rs (join_more x c)
 
 first_by : (b : Bool) (c : Connection) (rs : List Route) → map path_of (routes_by b c rs) ≡ completed b (first_path c) rs
 first_by true c rs = ap (λ (k : ℕ). let y : Path = record { from = c.from; to = c.to; delay = k; first = c.place; last = c.place } in y ∷ []) (delay_alone c)
-first_by false c rs = map_twice path_of (with_first c) rs ∙ map_agree (λ (r : Route). path_of (with_first c r)) (joined (first_path c)) rs
+first_by false c rs = map_twice path_of (with_first c) rs ∙ map_agree (λ (r : Route). path_of (with_first c r)) (with_route (first_path c)) rs
     (λ r. ap (λ (k : ℕ). let y : Path = record { from = c.from; to = (last_of r).to; delay = k; first = c.place; last = (last_of r).place } in y) (delay_more c r))
 
-not_target : (b : Bool) (x : Path) (rs : List Route) → b ≡ false → completed b x rs ≡ map (joined x) rs
+not_target : (b : Bool) (x : Path) (rs : List Route) → b ≡ false → completed b x rs ≡ map (with_route x) rs
 not_target b x rs e = ap (λ (t : Bool). completed t x rs) e
 
 -- a path that isn't at a target goes on along each connection that leaves where it ends
 pub goes_on : (cs : List Connection) (goals : List EndId) (n : ℕ) (rank : ℕ → ℕ) → Falls cs n rank → (x : Path) → is_among x.to goals ≡ false → paths_on cs goals n x ≡ flat_map (paths_on cs goals n) (map (extended x) (leaving cs x.to))
 goes_on cs goals n rank h x t =
     not_target (is_among x.to goals) x (routes_from cs goals n x.to) t
-    ∙ ap (map (joined x)) (sym (stable cs goals n rank h n x.to (h.low x.to.0)))
-    ∙ pieces_mapped (joined x) (λ (c : Connection). routes_by (is_among c.to goals) c (routes_from cs goals n c.to)) (leaving cs x.to)
+    ∙ ap (map (with_route x)) (sym (stable cs goals n rank h n x.to (h.low x.to.0)))
+    ∙ pieces_mapped (with_route x) (λ (c : Connection). routes_by (is_among c.to goals) c (routes_from cs goals n c.to)) (leaving cs x.to)
     ∙ pieces_agree _ (λ (c : Connection). paths_on cs goals n (extended x c)) (leaving cs x.to) (λ c. join_by (is_among c.to goals) x c (routes_from cs goals n c.to))
     ∙ sym (flat_map-map (paths_on cs goals n) (extended x) (leaving cs x.to))
 
@@ -126,7 +126,7 @@ pub is_found : (cs : List Connection) (goals : List EndId) (n : ℕ) (x : Path) 
 is_found cs goals n x t = ap (λ (b : Bool). completed b x (routes_from cs goals n x.to)) t
 
 -- the routes from an endpoint begin with each connection that leaves it
-begins : (cs : List Connection) (goals : List EndId) (n : ℕ) (rank : ℕ → ℕ) → Falls cs n rank → (e : EndId) → map path_of (routes_from cs goals n e) ≡ flat_map (paths_on cs goals n) (map first_path (leaving cs e))
+pub begins : (cs : List Connection) (goals : List EndId) (n : ℕ) (rank : ℕ → ℕ) → Falls cs n rank → (e : EndId) → map path_of (routes_from cs goals n e) ≡ flat_map (paths_on cs goals n) (map first_path (leaving cs e))
 begins cs goals n rank h e =
     ap (map path_of) (sym (stable cs goals n rank h n e (h.low e.0)))
     ∙ pieces_mapped path_of (λ (c : Connection). routes_by (is_among c.to goals) c (routes_from cs goals n c.to)) (leaving cs e)

@@ -4,3 +4,6 @@ pub mod Sound
 pub mod Ends
 pub mod Paths
 pub mod Edges
+pub mod Wires
+pub mod Shared
+pub mod Chains

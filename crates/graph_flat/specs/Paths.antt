@@ -1,5 +1,5 @@
 -- What a search keeps of a route: where it starts and ends, its delay, and the places of its first and last connection.
-use Rattle.std.specs.Prelude.{ℕ, ◌+◌, ◌*◌, ◌<◌, ◌≤◌, ◌≡◌, Bool, true, false, zero, suc, List, [], ◌∷◌, map, sum_by, nat_lt, slice_index, Contains}
+use Rattle.std.specs.Prelude.{ℕ, ◌+◌, ◌*◌, ◌<◌, ◌≤◌, ◌≡◌, Bool, true, false, ◌^◌, zero, suc, List, [], ◌∷◌, Option, Some, None, map, sum_by, nat_lt, slice_index, slice_index_or, Contains}
 use Rattle.cm_base.specs.declared.place.EndId.{EndId}
 use Rattle.cm_core.specs.declared.link.Connection.{Connection}
 use Rattle.cm_core.specs.Tree.{is_among}
@@ -9,8 +9,29 @@ use Rattle.graph_flat.specs.declared.paths.Path.{Path}
 abbrev pub first_path : Connection → Path
 first_path c = record { from = c.from; to = c.to; delay = c.delay; first = c.place; last = c.place }
 
+-- a path, and one that goes on where it ends
+abbrev pub joined : Path → Path → Path
+joined x y = record { from = x.from; to = y.to; delay = x.delay + y.delay; first = x.first; last = y.last }
+
 abbrev pub extended : Path → Connection → Path
-extended x c = record { from = x.from; to = c.to; delay = x.delay + c.delay; first = x.first; last = c.place }
+extended x c = joined x (first_path c)
+
+-- a path, and one that may go on where it ends
+abbrev pub jumped : Option Path → Path → Path
+jumped None x = x
+jumped (Some y) x = joined x y
+
+-- a connection, and the jump from where it ends
+abbrev pub leap : List (Option Path) → Connection → Path
+leap jumps c = jumped (slice_index_or jumps c.to.0 None) (first_path c)
+
+abbrev pub next_path : List (Option Path) → Path → Connection → Path
+next_path jumps x c = joined x (leap jumps c)
+
+-- a jump with a delay to which another can be added
+abbrev pub IsShort : Option Path → Type 0
+IsShort None = Unit {0}
+IsShort (Some y) = y.delay < 2 ^ 60
 
 abbrev pub delay_sum : Route → ℕ
 delay_sum r = sum_by (λ (c : Connection). c.delay) (r.first ∷ r.others)
@@ -19,12 +40,12 @@ delay_sum r = sum_by (λ (c : Connection). c.delay) (r.first ∷ r.others)
 abbrev pub path_of : Route → Path
 path_of r = record { from = r.first.from; to = (last_of r).to; delay = delay_sum r; first = r.first.place; last = (last_of r).place }
 
-abbrev pub joined : Path → Route → Path
-joined x r = record { from = x.from; to = (last_of r).to; delay = x.delay + delay_sum r; first = x.first; last = (last_of r).place }
+abbrev pub with_route : Path → Route → Path
+with_route x r = joined x (path_of r)
 
 abbrev pub completed : Bool → Path → List Route → List Path
 completed true x rs = x ∷ []
-completed false x rs = map (joined x) rs
+completed false x rs = map (with_route x) rs
 
 -- the paths to targets that begin with a path
 abbrev pub paths_on : List Connection → List EndId → ℕ → Path → List Path
@@ -48,14 +69,21 @@ pub record Falls (cs : List Connection) (n : ℕ) (rank : ℕ → ℕ) : Type 0 
 abbrev pub is_live : List ℕ → Connection → Bool
 is_live counts c = nat_lt 0 (slice_index counts c.to.0)
 
--- a count of 0 stands only at an endpoint from which no route leads to a target
-abbrev pub TellDead : List Connection → List EndId → ℕ → List ℕ → Type 0
-TellDead cs goals n counts = (c : Connection) → Contains cs c → slice_index counts c.to.0 ≡ 0 → (is_among c.to goals ≡ false) × (routes_from cs goals n c.to ≡ [])
-
--- a path that ends at an endpoint that is there, and has a delay to which that of what follows can be added
+-- a path that ends at an endpoint that is there, and has no more delay than its connections can have
 pub record IsLow (n : ℕ) (rank : ℕ → ℕ) (x : Path) : Type 0 where
   pub within : x.to.0 < n
-  pub delay : x.delay + 1048576 * rank x.to.0 ≤ 1048576 * (n + 1)
+  pub delay : x.delay + 1048576 * rank x.to.0 ≤ 1048576 * rank x.from.0
+
+-- a path that each route from an endpoint takes
+pub record IsJump (cs : List Connection) (goals : List EndId) (n : ℕ) (rank : ℕ → ℕ) (e : EndId) (y : Path) : Type 0 where
+  pub low : IsLow n rank y
+  pub from : y.from ≡ e
+  pub steps : steps_from cs goals n y.to ≤ steps_from cs goals n e
+  pub same : (x : Path) → x.to ≡ e → paths_on cs goals n x ≡ paths_on cs goals n (joined x y)
+
+abbrev pub MayJump : List Connection → List EndId → ℕ → (ℕ → ℕ) → EndId → Option Path → Type 0
+MayJump cs goals n rank e None = Unit {0}
+MayJump cs goals n rank e (Some y) = IsJump cs goals n rank e y
 
 -- both ends of a connection are below n, and its delay is one
 pub record IsBelow (n : ℕ) (c : Connection) : Type 0 where

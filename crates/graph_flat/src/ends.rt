@@ -3,7 +3,7 @@ ghost use Rattle.std.specs.List.{flat_map};
 ghost use Rattle.cm_base.specs.declared.place.EndId.{EndId as TheEndId};
 ghost use Rattle.cm_base.specs.declared.place.NodeId.{NodeId as TheNodeId};
 ghost use Rattle.cm_core.specs.Consistent.{IsConsistent};
-ghost use Rattle.cm_core.specs.Tree.{node_at, is_among, leaf_with, leaf_nodes};
+ghost use Rattle.cm_core.specs.Tree.{node_at, is_among, leaf_with, leaf_nodes, starts, targets};
 ghost use Rattle.graph_flat.specs.Ends.{with_flow, first_owner, leaf_id};
 
 use cm_base::{EndId, Flow, LeafId, NodeId};
@@ -30,7 +30,7 @@ fn append_ends(
 }
 
 /// The endpoints of the host that have one flow, and then those of the leaves that have the other.
-pub fn ends_with(
+fn ends_with(
     alloc: Global,
     program: &Program,
     leaves: &[NodeId],
@@ -46,6 +46,36 @@ pub fn ends_with(
     for node in leaves {
         append_ends(&mut found, program, *node, leaf)?;
     }
+    Ok(found)
+}
+
+/// The endpoints at which chains start: the inputs of the host, and then the outputs of the leaves.
+pub fn starts_of(
+    alloc: Global,
+    program: &Program,
+    leaves: &[NodeId],
+) -> Result<Vec<EndId>, AllocError>
+    requires program { IsConsistent program.now }
+    requires leaves { leaves.now ≡ leaf_nodes program.now }
+    ensures starts { IfOk result (λ es. es.items ≡ starts program.now) }
+    ensures within { IfOk result (λ es. All (λ e. e.0 < length program.now.ends) es.items) }
+{
+    let found = ends_with(alloc, program, leaves, Flow::Input, Flow::Output)?;
+    Ok(found)
+}
+
+/// The endpoints at which chains end: the outputs of the host, and then the inputs of the leaves.
+pub fn targets_of(
+    alloc: Global,
+    program: &Program,
+    leaves: &[NodeId],
+) -> Result<Vec<EndId>, AllocError>
+    requires program { IsConsistent program.now }
+    requires leaves { leaves.now ≡ leaf_nodes program.now }
+    ensures targets { IfOk result (λ es. es.items ≡ targets program.now) }
+    ensures within { IfOk result (λ es. All (λ e. e.0 < length program.now.ends) es.items) }
+{
+    let found = ends_with(alloc, program, leaves, Flow::Output, Flow::Input)?;
     Ok(found)
 }
 

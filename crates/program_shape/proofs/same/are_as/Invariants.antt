@@ -1,0 +1,6 @@
+use Rattle.std.proofs.Common.{◌≡◌, take, map}
+use Rattle.cm_core.specs.Tree.{end_at}
+use Rattle.program_shape.proofs.same.are_as.Given as goal
+
+abbrev pub invariant-loop-at : goal.invariant-loop-at
+invariant-loop-at l = map (end_at l.program) (take l.at l.ids) ≡ take l.at l.ends

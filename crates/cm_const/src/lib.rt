@@ -1,0 +1,12 @@
+//! The values of constants: `computed` and `computed_alone` are what each operator gives for numbers of a width, `operate` and
+//! `operate_alone` what it gives for constants, in the type in which it computes. Each meets the definition of its name in
+//! `cm_meaning`, `Conversions`, of what its arguments mean by `meant_valued` of `cm_types`.
+#![tactic(auto)]
+
+mod numbers;
+mod operations;
+#[cfg(test)]
+mod tests;
+
+pub use numbers::{computed, computed_alone};
+pub use operations::{operate, operate_alone};

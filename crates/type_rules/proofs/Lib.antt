@@ -1,0 +1,4 @@
+pub mod Fields
+pub mod Held
+pub mod Lists
+pub mod Widening

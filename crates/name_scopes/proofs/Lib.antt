@@ -1,0 +1,5 @@
+mod StackLemmas
+mod NumberLemmas
+mod ApartLemmas
+mod ExactLemmas
+mod SpaceLemmas

@@ -1,0 +1,6 @@
+use Rattle.std.proofs.Common.{Ok, take, flat_map}
+use Rattle.name_scopes.specs.Apart.{KeepsApart, end_name_words}
+use Rattle.name_scopes.proofs.apart.keep_end_names.Given as goal
+
+abbrev pub invariant-loop-end : goal.invariant-loop-end
+invariant-loop-end l = KeepsApart l.fn.names (flat_map end_name_words (take l.end-index l.ends)) (Ok tt) l.names

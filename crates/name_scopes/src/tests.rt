@@ -1,0 +1,190 @@
+use crate::{Names, Spaces, Table, check_apart, check_unit};
+use cm_base::{Cause, Fail, Items, Name, Place};
+use cm_tree::{Expr, Init, Member, Param, Shared, UnitDecl, Var, Word};
+use std::alloc::{AllocError, Global};
+use std::test;
+
+fn place(column: u32) -> Place {
+    Place {
+        file: 1,
+        line: 1,
+        column,
+    }
+}
+
+fn word(alloc: Global, text: &str, column: u32) -> Result<Word, AllocError> {
+    Ok(Word {
+        place: place(column),
+        text: Name::from_str(alloc, text)?,
+    })
+}
+
+#[test]
+fn numbers_names(rt: HostRuntime) -> Result<(), test::Fail> {
+    let mut names = Names::new(rt.alloc());
+    let texts = ["gain", "out", "gain", "Gain", "", "out"];
+    let numbers = [0, 1, 0, 2, 3, 1];
+    for (text, want) in texts.iter().zip(numbers.iter()) {
+        let number = names.number(text)?;
+        assert!(rt; number == *want, "at {text:?}");
+    }
+    assert!(rt; names.len() == 4);
+    assert!(rt; names.find("Gain") == Some(2));
+    assert!(rt; names.find("gai") == None);
+    assert!(rt; names.text(1) == Some("out"));
+    assert!(rt; names.text(4) == None);
+    assert!(rt; !names.insert("out")?);
+    assert!(rt; names.insert("in")?);
+    Ok(())
+}
+
+// a, a::b, b, b::a and a::b again
+#[test]
+fn numbers_namespaces(rt: HostRuntime) -> Result<(), test::Fail> {
+    let mut spaces = Spaces::new(rt.alloc());
+    assert!(rt; spaces.find(0, "a") == None);
+    let a = spaces.open(0, "a")?;
+    assert!(rt; a == 1);
+    let inner = spaces.open(1, "b")?;
+    let b = spaces.open(0, "b")?;
+    assert!(rt; inner == 2 && b == 3);
+    let other = spaces.open(3, "a")?;
+    let again = spaces.open(1, "b")?;
+    assert!(rt; other == 4 && again == 2);
+    assert!(rt; spaces.count() == 5);
+    assert!(rt; spaces.find(1, "b") == Some(2));
+    assert!(rt; spaces.find(2, "b") == None);
+    Ok(())
+}
+
+// a = 1; { b = 2; a = 3; { a = 4; a = 5; } } with what is found on the way
+#[test]
+fn finds_the_innermost(rt: HostRuntime) -> Result<(), test::Fail> {
+    let mut table = Table::new(rt.alloc(), 3)?;
+    assert!(rt; table.find(0) == None);
+    table.declare(0, 1)?;
+    table.enter()?;
+    assert!(rt; table.find(0) == Some(1));
+    table.declare(1, 2)?;
+    table.declare(0, 3)?;
+    table.enter()?;
+    assert!(rt; table.find(0) == Some(3));
+    assert!(rt; table.find(2) == None);
+    table.declare(0, 4)?;
+    table.declare(0, 5)?;
+    assert!(rt; table.find(0) == Some(5));
+    assert!(rt; table.find(1) == Some(2));
+    table.leave();
+    assert!(rt; table.find(0) == Some(3));
+    table.leave();
+    assert!(rt; table.find(0) == Some(1));
+    assert!(rt; table.find(1) == None);
+    table.leave();
+    assert!(rt; table.find(0) == None);
+    table.leave();
+    table.declare(2, 6)?;
+    assert!(rt; table.find(2) == Some(6));
+    Ok(())
+}
+
+fn refused_at(answer: Result<(), Fail>) -> Option<u32> {
+    match answer {
+        Err(Fail::Refused(refused)) => {
+            if refused.cause == Cause::DuplicateName && refused.cycle.is_empty() {
+                Some(refused.place.column)
+            } else {
+                None
+            }
+        }
+        Err(Fail::NoMemory) => None,
+        Ok(()) => Some(0),
+    }
+}
+
+// The words of each row stand at columns 1, 2, 3 and so on; a row is refused at a column, or is right where that is 0.
+#[test]
+fn keeps_words_apart(rt: HostRuntime) -> Result<(), test::Fail> {
+    let rows: [(&[&str], u32); 6] = [
+        (&[], 0),
+        (&["a"], 0),
+        (&["a", "b", "A", "ab"], 0),
+        (&["a", "a"], 2),
+        (&["a", "b", "c", "b"], 4),
+        (&["", "a", ""], 3),
+    ];
+    for (texts, want) in rows {
+        let mut words = Vec::new(rt.alloc());
+        let mut column = 0;
+        for text in texts {
+            if column < 9 {
+                column += 1;
+            }
+            words.push(word(rt.alloc(), text, column)?)?;
+        }
+        let found = refused_at(check_apart(rt.alloc(), &words));
+        assert!(rt; found == Some(want), "at {texts:?}");
+    }
+    Ok(())
+}
+
+fn inits(alloc: Global, text: &str, column: u32) -> Result<Items<Init>, AllocError> {
+    let mut inits = Vec::new(alloc);
+    inits.push(Init {
+        name: word(alloc, text, column)?,
+        value: Expr::Truth(place(column), true),
+    })?;
+    Ok(Items::from_vec(inits))
+}
+
+// processor P (using T) { let a = true; var b = true; bool c; }
+fn unit(
+    alloc: Global,
+    parameter: &str,
+    constant: &str,
+    state: &str,
+    other: &str,
+) -> Result<UnitDecl, AllocError> {
+    let mut params = Vec::new(alloc);
+    params.push(Param::Type(place(1), word(alloc, parameter, 1)?))?;
+    let mut vars = Vec::new(alloc);
+    vars.push(Var {
+        name: word(alloc, other, 4)?,
+        value: None,
+    })?;
+    let mut members = Vec::new(alloc);
+    members.push(Member::Shared(Shared::Let(place(2), inits(alloc, constant, 2)?)))?;
+    members.push(Member::Var(place(3), inits(alloc, state, 3)?))?;
+    members.push(Member::State(
+        cm_tree::TypeExpr::Base(cm_tree::Base::Bool(place(4)), Items::new(alloc)),
+        Items::from_vec(vars),
+    ))?;
+    Ok(UnitDecl {
+        place: place(1),
+        name: word(alloc, "P", 1)?,
+        params: Items::from_vec(params),
+        keys: Items::new(alloc),
+        members: Items::from_vec(members),
+    })
+}
+
+// A parameter and the members of a processor are one scope, and its own name is outside of it.
+#[test]
+fn keeps_members_apart(rt: HostRuntime) -> Result<(), test::Fail> {
+    let rows = [
+        ("T", "a", "b", "c", 0),
+        ("P", "a", "b", "c", 0),
+        ("T", "T", "b", "c", 2),
+        ("T", "a", "a", "c", 3),
+        ("T", "a", "b", "T", 4),
+        ("T", "a", "b", "b", 4),
+    ];
+    for (parameter, constant, state, other, want) in rows {
+        let unit = unit(rt.alloc(), parameter, constant, state, other)?;
+        let found = refused_at(check_unit(rt.alloc(), &unit));
+        assert!(rt;
+            found == Some(want),
+            "at {parameter} {constant} {state} {other}"
+        );
+    }
+    Ok(())
+}

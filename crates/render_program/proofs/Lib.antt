@@ -1,4 +1,3 @@
-pub mod Adapters
 pub mod FileLemmas
 pub mod StepLemmas
 pub mod PatchLemmas

@@ -1,7 +1,6 @@
 pub mod Compile
 pub mod Due
 pub mod Files
-pub mod Outside
 pub mod Patch
 pub mod Statuses
 pub mod Steps

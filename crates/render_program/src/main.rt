@@ -5,7 +5,6 @@
 
 mod compile;
 mod files;
-mod outside;
 mod patch;
 mod report;
 mod run;
@@ -13,13 +12,12 @@ mod status;
 mod stop;
 #[cfg(test)]
 mod tests;
-mod whole_file;
 mod words;
 
 ghost use Rattle.std.specs.Prelude.{◌≡◌, ◌↔◌, ◌⊎◌};
 ghost use Rattle.std.specs.IoError.{error_kind};
 
-use outside::{Disk, Stream};
+use real_files::{Disk, Stream};
 use report::told;
 use run::run;
 use status::Status;

@@ -8,7 +8,7 @@ ghost use Rattle.std.specs.Io.{ReadsAtMost, WritesAtMost};
 ghost use Rattle.std.specs.Io.KnownBytes.{Appends, Keeps, ReadConsumes, WriteAppends};
 ghost use Rattle.cm_io.specs.Count.{Rose};
 ghost use Rattle.cm_io.specs.Sink.{OnPut, OnPutFailed, OnPutNoMemory};
-ghost use Rattle.render_program.specs.Outside.{AppendsFront};
+ghost use Rattle.real_files.specs.Outside.{AppendsFront};
 
 #[cfg(test)]
 mod tests;
@@ -36,6 +36,7 @@ pub struct Disk<'a, R: Files> {
 }
 
 impl<'a, R: Files> Disk<'a, R> {
+    /// No call has failed yet.
     pub fn new(files: &'a R) -> Disk<'a, R>
         ensures faults { result.faults ≡ 0 }
         ensures absences { result.absences ≡ 0 }
@@ -180,6 +181,7 @@ pub struct Stream<W: Write + Drop> {
 }
 
 impl<W: Write + Drop> Stream<W> {
+    /// No call has failed yet.
     pub fn new(to: W) -> Stream<W>
         ensures { result.faults ≡ 0 }
     {

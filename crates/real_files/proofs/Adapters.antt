@@ -2,7 +2,7 @@
 use Rattle.std.proofs.Common.{◌≡◌, ℕ, zero, suc, ◌+◌, ◌≤◌, List, [], ◌∷◌, ◌++◌, length, take, drop, Option, Some, None, refl, sym, ◌∙◌, ap, subst, arith}
 use Rattle.std.specs.Prelude.{IfSome}
 use Rattle.std.specs.Io.KnownBytes.{Appends, Consumes, IsAtEnd, Keeps}
-use Rattle.render_program.specs.Outside.{AppendsFront}
+use Rattle.real_files.specs.Outside.{AppendsFront}
 use Rattle.std.proofs.lemmas.List.{append-nil, append_assoc, length-drop, take-append-drop}
 use Rattle.std.proofs.Math.Seq.{take-nil, take-append_seam}
 

@@ -1,6 +1,6 @@
 use Rattle.std.proofs.Common.{arith}
-use Rattle.render_program.proofs.Adapters.{wrote_more, wrote_rest, wrote_kept, wrote_front}
-use Rattle.render_program.proofs.outside.write_each.Goals as goal
+use Rattle.real_files.proofs.Adapters.{wrote_more, wrote_rest, wrote_kept, wrote_front}
+use Rattle.real_files.proofs.outside.write_each.Goals as goal
 
 pub returns-in_err-count-clause-part : goal.returns-in_err-count-clause-part
 returns-in_err-count-clause-part g c = wrote_front _ _ _ _ (wrote_kept _ _ _ _ _ c.loop-rest.invariant c.in_err-count.ensures.bytes)

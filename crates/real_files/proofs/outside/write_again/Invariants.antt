@@ -1,5 +1,5 @@
 use Rattle.std.specs.Io.KnownBytes.{Keeps}
-use Rattle.render_program.proofs.outside.write_again.Given as goal
+use Rattle.real_files.proofs.outside.write_again.Given as goal
 
 -- an interrupted write took nothing
 abbrev pub invariant-loop : goal.invariant-loop

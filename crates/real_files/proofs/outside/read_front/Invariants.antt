@@ -1,6 +1,6 @@
 use Rattle.std.proofs.Common.{◌≡◌, length, ◌+◌}
 use Rattle.std.specs.Io.KnownBytes.{Consumes}
-use Rattle.render_program.proofs.outside.read_front.Given as goal
+use Rattle.real_files.proofs.outside.read_front.Given as goal
 
 abbrev pub decreases-loop-left : goal.decreases-loop-left
 decreases-loop-left g l = l.left

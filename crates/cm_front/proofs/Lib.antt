@@ -1,4 +1,3 @@
-pub mod Runs
-pub mod Lexemes
-pub mod Named
-pub mod Forms
+pub mod TextLemmas
+pub mod FormLemmas
+pub mod WithinLemmas

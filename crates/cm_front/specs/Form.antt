@@ -1,102 +1,106 @@
--- The form of source that is compiled so far: docs/LANGUAGE.md, "What is compiled so far".
-use Rattle.std.specs.Prelude.{ℕ, ◌≡◌, ◌≢◌, ◌==◌, ◌||◌, Bool, IsTrue, IsFalse, List, [], ◌∷◌, ◌++◌, Contains, codes}
-use Rattle.std.specs.Char.{is_ascii_alphabetic, is_ascii_digit}
-use Rattle.std.specs.List.{AllByRecursion}
+-- The form of patch that is compiled so far, over the trees of its files: docs/LANGUAGE.md, "What is compiled so far".
+use Rattle.std.specs.Prelude.{◌≡◌, ◌≢◌, List, [], ◌∷◌, None, codes, flat_map}
+use Rattle.cm_base.specs.declared.host.Flow.{Flow}
+use Rattle.cm_base.specs.declared.host.Flow.TheVariants.{Input, Output}
+use Rattle.cm_base.specs.declared.host.Kind.TheVariants.{Stream}
+use Rattle.cm_base.specs.declared.place.Place.{Place}
+use Rattle.cm_tree.specs.declared.path.Path.{Path}
+use Rattle.cm_tree.specs.declared.path.Word.{Word}
+use Rattle.cm_tree.specs.declared.expr.Expr.TheVariants as e
+use Rattle.cm_tree.specs.declared.expr.Base.TheVariants as b
+use Rattle.cm_tree.specs.declared.type_expr.TypeExpr.{TypeExpr}
+use Rattle.cm_tree.specs.declared.type_expr.TypeExpr.TheVariants as y
+use Rattle.cm_tree.specs.declared.stmt.Stmt.{Stmt}
+use Rattle.cm_tree.specs.declared.stmt.Stmt.TheVariants as x
+use Rattle.cm_tree.specs.declared.shared.Function.{Function}
+use Rattle.cm_tree.specs.declared.member.Key.{Key}
+use Rattle.cm_tree.specs.declared.member.EndName.{EndName}
+use Rattle.cm_tree.specs.declared.member.End.{End}
+use Rattle.cm_tree.specs.declared.member.Member.{Member}
+use Rattle.cm_tree.specs.declared.member.Member.TheVariants as m
+use Rattle.cm_tree.specs.declared.decl.UnitDecl.{UnitDecl}
+use Rattle.cm_tree.specs.declared.decl.Decl.{Decl}
+use Rattle.cm_tree.specs.declared.decl.Decl.TheVariants as d
+use Rattle.cm_tree.specs.declared.file.File.{File}
+use Rattle.cm_tree.specs.Pieces.{Text}
 
--- ---- gaps, words and signs
+-- `int`
+pub record IsInt (ty : TypeExpr) : Type 0 where
+  pub place : Place
+  pub is : ty ≡ y.Base (b.Int place) []
 
--- space, tab, line feed and carriage return
-unfoldable pub is_space : ℕ → Bool
-is_space byte = byte == 32 || byte == 9 || byte == 10 || byte == 13
+-- `[[main]]`
+pub record IsMainMark (keys : List Key) : Type 0 where
+  pub key : Key
+  pub is : keys ≡ key ∷ []
+  pub name : key.name.text ≡ codes "main"
+  pub bare : key.value ≡ None
 
--- an ASCII letter or `_`
-unfoldable pub is_letter : ℕ → Bool
-is_letter byte = is_ascii_alphabetic byte || byte == 95
+-- `stream int NAME;`
+pub record IsStreamEnd (name : Text) (end : End) : Type 0 where
+  pub end_name : EndName
+  pub kind : end.kind ≡ Stream
+  pub is_int : IsInt end.ty
+  pub is : end.names ≡ end_name ∷ []
+  pub named : end_name.name.text ≡ name
+  pub bare : end_name.keys ≡ []
 
--- a letter, a digit or `_`
-unfoldable pub is_word_byte : ℕ → Bool
-is_word_byte byte = is_letter byte || is_ascii_digit byte
+-- `input stream int NAME;` or `output stream int NAME;`
+pub record IsStream (flow : Flow) (name : Text) (member : Member) : Type 0 where
+  pub place : Place
+  pub end : End
+  pub is : member ≡ m.Ends place flow (end ∷ [])
+  pub stream : IsStreamEnd name end
 
--- a gap is any number of spaces, also none
-abbrev pub IsGap : List ℕ → Type 0
-IsGap bytes = AllByRecursion (λ byte. IsTrue (is_space byte)) bytes
+-- `loop { OUTPUT <- INPUT; advance(); }`
+pub record IsPass (input output : Text) (stmts : List Stmt) : Type 0 where
+  pub loop : Place
+  pub block : Place
+  pub advance : Place
+  pub to : Word
+  pub from : Path
+  pub is : stmts ≡ x.Loop loop None (x.Block block (x.Write to (e.Name from) ∷ x.Advance advance ∷ [])) ∷ []
+  pub written : to.text ≡ output
+  pub read : from.names ≡ input ∷ []
 
--- what a source is made of besides gaps
-pub data Lexeme : Type 0 where
-  Word : (bytes : List ℕ) → Lexeme
-  Sign : (bytes : List ℕ) → Lexeme
+-- `void main() { loop { OUTPUT <- INPUT; advance(); } }`
+pub record IsMain (input output : Text) (member : Member) : Type 0 where
+  pub function : Function
+  pub is : member ≡ m.Function function
+  pub no_result : function.result ≡ None
+  pub name : function.name.text ≡ codes "main"
+  pub no_params : function.params ≡ []
+  pub pass : IsPass input output function.body.stmts
 
--- the bytes of a lexeme
-abbrev pub spelling : Lexeme → List ℕ
-spelling (Word bytes) = bytes
-spelling (Sign bytes) = bytes
+-- `processor NAME [[main]] { input stream int INPUT; output stream int OUTPUT; void main() { .. } }`
+pub record IsThrough (name input output : Text) (unit_decl : UnitDecl) : Type 0 where
+  pub first : Member
+  pub second : Member
+  pub third : Member
+  pub named : unit_decl.name.text ≡ name
+  pub no_params : unit_decl.params ≡ []
+  pub mark : IsMainMark unit_decl.keys
+  pub is : unit_decl.members ≡ first ∷ second ∷ third ∷ []
+  pub input_end : IsStream Input input first
+  pub output_end : IsStream Output output second
+  pub main : IsMain input output third
 
--- A word is taken whole: no letter, digit or `_` follows it. So a space stands between two words.
-abbrev pub EndsBefore : Lexeme → List ℕ → Type 0
-EndsBefore (Sign sign) rest = Unit {0}
-EndsBefore (Word word) [] = Unit {0}
-EndsBefore (Word word) (byte ∷ rest) = IsFalse (is_word_byte byte)
-
--- a text begins with a gap and this lexeme, and the rest follows
-pub record Begins (lexeme : Lexeme) (text rest : List ℕ) : Type 0 where
-  pub gap : List ℕ
-  pub is_gap : IsGap gap
-  pub cut : text ≡ gap ++ (spelling lexeme ++ rest)
-  pub whole : EndsBefore lexeme rest
-
--- a text is its lexemes in order, with a gap before each and a gap at its end
-unfoldable pub Spaced : List Lexeme → List ℕ → Type 0
-Spaced [] text = IsGap text
-Spaced (lexeme ∷ others) text = (rest : List ℕ) × Begins lexeme text rest × Spaced others rest
-
--- ---- names
-
--- a word begins with a letter or `_`, and goes on with letters, digits and `_`
-abbrev pub IsWord : List ℕ → Type 0
-IsWord [] = ⊥
-IsWord (byte ∷ bytes) = IsTrue (is_letter byte) × AllByRecursion (λ other. IsTrue (is_word_byte other)) bytes
-
--- the words that no name is: `main`, the reserved words, those of floating point, and others that this language leaves out
-unfoldable pub reserved : List (List ℕ)
-reserved =
-    codes "main"
-    ∷ codes "namespace" ∷ codes "processor" ∷ codes "graph" ∷ codes "struct" ∷ codes "using" ∷ codes "let" ∷ codes "var"
-    ∷ codes "input" ∷ codes "output" ∷ codes "event" ∷ codes "node" ∷ codes "connection"
-    ∷ codes "if" ∷ codes "else" ∷ codes "loop" ∷ codes "while" ∷ codes "for" ∷ codes "break" ∷ codes "continue" ∷ codes "return" ∷ codes "advance"
-    ∷ codes "void" ∷ codes "bool" ∷ codes "int" ∷ codes "int32" ∷ codes "int64" ∷ codes "wrap" ∷ codes "clamp"
-    ∷ codes "true" ∷ codes "false" ∷ codes "static_assert"
-    ∷ codes "float" ∷ codes "float32" ∷ codes "float64" ∷ codes "complex" ∷ codes "complex32" ∷ codes "complex64"
-    ∷ codes "string" ∷ codes "enum" ∷ codes "external" ∷ codes "const" ∷ codes "import" ∷ []
-
--- a word that no name is
-abbrev pub IsReserved : List ℕ → Type 0
-IsReserved word = Contains reserved word
-
--- a name of a processor or of an endpoint
-pub record IsName (name : List ℕ) : Type 0 where
-  pub word : IsWord name
-  pub free : ¬ IsReserved name
-
--- ---- the form
-
--- processor P [[main]] { input stream int A; output stream int B; void main() { loop { B <- A; advance(); } } }
-unfoldable pub lexemes : List ℕ → List ℕ → List ℕ → List Lexeme
-lexemes p a b =
-    Word (codes "processor") ∷ Word p ∷ Sign (codes "[") ∷ Sign (codes "[") ∷ Word (codes "main") ∷ Sign (codes "]") ∷ Sign (codes "]") ∷ Sign (codes "{")
-    ∷ Word (codes "input") ∷ Word (codes "stream") ∷ Word (codes "int") ∷ Word a ∷ Sign (codes ";")
-    ∷ Word (codes "output") ∷ Word (codes "stream") ∷ Word (codes "int") ∷ Word b ∷ Sign (codes ";")
-    ∷ Word (codes "void") ∷ Word (codes "main") ∷ Sign (codes "(") ∷ Sign (codes ")") ∷ Sign (codes "{")
-    ∷ Word (codes "loop") ∷ Sign (codes "{")
-    ∷ Word b ∷ Sign (codes "<-") ∷ Word a ∷ Sign (codes ";")
-    ∷ Word (codes "advance") ∷ Sign (codes "(") ∷ Sign (codes ")") ∷ Sign (codes ";")
-    ∷ Sign (codes "}") ∷ Sign (codes "}") ∷ Sign (codes "}") ∷ []
-
--- the text is of the form, with these three names, which are distinct
-pub record IsForm (text processor input output : List ℕ) : Type 0 where
-  pub spaced : Spaced (lexemes processor input output) text
-  pub processor_name : IsName processor
-  pub input_name : IsName input
-  pub output_name : IsName output
+-- three names, none of them another or `main`
+pub record AreNames (processor input output : Text) : Type 0 where
   pub processor_input : processor ≢ input
   pub processor_output : processor ≢ output
   pub input_output : input ≢ output
+  pub processor_main : processor ≢ codes "main"
+  pub input_main : input ≢ codes "main"
+  pub output_main : output ≢ codes "main"
+
+-- the declarations of all files, in their order
+abbrev pub decls_of : List File → List Decl
+decls_of files = flat_map (λ (file : File). file.decls) files
+
+-- all files together are one processor of the form, with these names
+pub record HaveForm (files : List File) (processor input output : Text) : Type 0 where
+  pub unit_decl : UnitDecl
+  pub is : decls_of files ≡ d.Processor unit_decl ∷ []
+  pub through : IsThrough processor input output unit_decl
+  pub names : AreNames processor input output

@@ -1,3 +1,5 @@
 pub mod Answer
 pub mod Form
+pub mod Phases
 pub mod Reading
+pub mod Spans

@@ -1,27 +1,13 @@
-//! The program: `run` carries out the words of a command line over a folder, two sinks and listeners, and
-//! `main` hands it the real ones. `run`'s contract is the headline: with `Ok` after `compile` the file that
-//! was asked for holds a valid module that keeps the patch, and every other answer has its cause.
+//! The program: `main` hands the real files and streams to `run` of `commands`, whose contract is the headline, and
+//! exits with the number of its status.
 #![tactic(auto)]
-
-mod compile;
-mod files;
-mod patch;
-mod report;
-mod run;
-mod status;
-mod stop;
-#[cfg(test)]
-mod tests;
-mod words;
 
 ghost use Rattle.std.specs.Prelude.{◌≡◌, ◌↔◌, ◌⊎◌};
 ghost use Rattle.std.specs.IoError.{error_kind};
 
+use commands::{Status, run, told};
 use real_files::{Disk, Stream};
-use report::told;
-use run::run;
-use status::Status;
-use std::alloc::{AllocError, Global};
+use std::alloc::AllocError;
 use std::env;
 use std::io::{self, ErrorKind};
 use std::process::ExitCode;

@@ -1,0 +1,5 @@
+pub mod FileLemmas
+pub mod StepLemmas
+pub mod ManifestLemmas
+pub mod PatchLemmas
+pub mod EndLemmas

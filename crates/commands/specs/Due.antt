@@ -1,0 +1,16 @@
+-- The status that is due by the words and by what the folder holds: docs/COMMANDS.md, "The order of work".
+use Rattle.std.specs.Prelude.{ℕ, ◌≡◌, ◌⊎◌, List, MatchOption}
+use Rattle.cm_io.specs.Files.{Files}
+use Rattle.cm_tree.specs.Patch.{Patch}
+use Rattle.commands.specs.declared.status.Status.{Status}
+use Rattle.commands.specs.declared.status.Status.TheVariants as status
+use Rattle.commands.specs.Patch.{PatchOf, NoPatch}
+use Rattle.commands.specs.Words.{Command, Compile, command_of}
+
+-- of `compile`: there is no patch, or its module can be made
+abbrev pub IsDueFor : Command → Files → Status → Type 0
+IsDueFor (Compile manifest out) files due = NoPatch files manifest due ⊎ ((patch : Patch) × PatchOf files manifest patch × (due ≡ status.Ok))
+
+-- the status is due
+abbrev pub IsDue : Files → List (List ℕ) → Status → Type 0
+IsDue files words due = MatchOption (command_of words) (due ≡ status.Usage) (λ command. IsDueFor command files due)

@@ -1,0 +1,20 @@
+//! The commands of the program: `run` carries out the words of a command line over a folder, two sinks and
+//! listeners. Its contract is the headline: with `Ok` after `compile` the file that was asked for holds a valid
+//! module that keeps the patch, and every other answer has its cause. The program itself, `render_program`, hands
+//! it the real files and streams. `told` puts a status's line on the error stream.
+#![tactic(auto)]
+
+mod compile;
+mod dispatch;
+mod files;
+mod patch;
+mod report;
+mod status;
+mod stop;
+#[cfg(test)]
+mod tests;
+mod words;
+
+pub use dispatch::run;
+pub use report::told;
+pub use status::{At, FileRef, Status, Target};

@@ -1,4 +1,0 @@
-pub mod FileLemmas
-pub mod StepLemmas
-pub mod PatchLemmas
-pub mod EndLemmas

@@ -1,0 +1,16 @@
+pub mod Called
+pub mod Chains
+pub mod Filling
+pub mod Going
+pub mod HeardBlocks
+pub mod HeardCalls
+pub mod Hosts
+pub mod Numbered
+pub mod PartsPlayed
+pub mod Pieces
+pub mod Places
+pub mod Quiet
+pub mod RoomLemmas
+pub mod Starting
+pub mod States
+pub mod Written

@@ -15,7 +15,7 @@ use crate::tree::{check_tree, edges};
 use cm_base::NoMemory;
 use cm_base::limits::{LATENCY, LINKS, NODES};
 use cm_core::{Program, Unit};
-use std::alloc::Global;
+use std::alloc::{AllocError, Global};
 
 /// Whether no latency is past its limit.
 fn are_few_frames(units: &[Unit]) -> bool
@@ -36,15 +36,18 @@ fn is_measured(program: &Program) -> bool
 }
 
 /// Whether each instance, each group and the host are as they should be, looked at one by one.
-fn has_parts(program: &Program) -> bool
+fn has_parts(alloc: Global, program: &Program) -> Result<bool, AllocError>
     requires { IsMeasured program.now }
-    ensures { IsTrue result → HasParts program.now }
+    ensures { IfOk result (λ b. IsTrue b → HasParts program.now) }
 {
-    are_nodes(program)
-        && are_groups(program)
-        && are_host_ends(program)
-        && are_lawful(program.host.as_slice())
-        && (is_graph(program, program.main) || program.links.is_empty())
+    let lawful = are_lawful(alloc, program.host.as_slice())?;
+    Ok(
+        lawful
+            && are_nodes(program)
+            && are_groups(program)
+            && are_host_ends(program)
+            && (is_graph(program, program.main) || program.links.is_empty()),
+    )
 }
 
 /// Whether instances, endpoints, groups and connections fit together.
@@ -66,7 +69,10 @@ fn is_joined(alloc: Global, program: &Program) -> Result<bool, Misfit>
 pub fn is_consistent(alloc: Global, program: &Program) -> Result<bool, NoMemory>
     ensures { IfOk result (λ b. IsTrue b → IsConsistent program.now) }
 {
-    if !is_measured(program) || !has_parts(program) {
+    if !is_measured(program) {
+        return Ok(false);
+    }
+    if !has_parts(alloc, program)? {
         return Ok(false);
     }
     match is_joined(alloc, program) {

@@ -1,4 +1,4 @@
-ghost use Rattle.std.specs.Prelude.{◌≡◌, ◌≢◌, false, ◌<◌, ◌^◌, ℕ, IsTrue, All, length, slice_index_or};
+ghost use Rattle.std.specs.Prelude.{◌≡◌, ◌<◌, ◌^◌, ℕ, IsTrue, IfOk, All, length, slice_index_or};
 ghost use Rattle.std.specs.List.{AllByRecursion};
 ghost use Rattle.cm_base.specs.declared.host.HostEnd.{HostEnd as TheHostEnd};
 ghost use Rattle.cm_base.specs.declared.place.EndId.{EndId as TheEndId};
@@ -9,6 +9,8 @@ ghost use Rattle.cm_core.specs.Consistent.{IsHostEnd, IsNode};
 use crate::same::has_parts;
 use cm_base::{EndId, Flow, HostEnd, Kind, Name, Scalar};
 use cm_core::Program;
+use std::alloc::{AllocError, Global};
+use std::collections::HashMap;
 
 /// Whether the endpoints of the host are those of main.
 pub fn are_host_ends(program: &Program) -> bool
@@ -91,29 +93,26 @@ fn are_lawful_ends(ends: &[HostEnd]) -> bool
     true
 }
 
-fn has_name(ends: &[HostEnd], name: &Name) -> bool
-    ensures { result ≡ false → All (λ e. e.name ≢ name.now) ends.now }
-{
-    ends.iter().any(|end| end.name.as_str() == name.as_str())
-}
-
 /// Whether no name stands twice.
-fn have_own_names(ends: &[HostEnd]) -> bool
-    ensures { IsTrue result → AreDistinct (names_of ends.now) }
+fn have_own_names(alloc: Global, ends: &[HostEnd]) -> Result<bool, AllocError>
+    ensures { IfOk result (λ own. IsTrue own → AreDistinct (names_of ends.now)) }
 {
-    let mut left = ends;
-    while let Some((end, rest)) = left.split_first() {
-        if has_name(rest, &end.name) {
-            return false;
+    let mut numbers = HashMap::with_capacity(alloc, ends.len())?;
+    for number in (0..ends.len()).rev() {
+        if numbers
+            .insert(ends[number].name.as_str(), number)?
+            .is_some()
+        {
+            return Ok(false);
         }
-        left = rest;
     }
-    true
+    Ok(true)
 }
 
 /// Whether the endpoints can belong to a patch.
-pub fn are_lawful(ends: &[HostEnd]) -> bool
-    ensures { IsTrue result → IsLawful ends.now }
+pub fn are_lawful(alloc: Global, ends: &[HostEnd]) -> Result<bool, AllocError>
+    ensures { IfOk result (λ lawful. IsTrue lawful → IsLawful ends.now) }
 {
-    ends.len() < 1 << 32 && are_lawful_ends(ends) && have_own_names(ends)
+    let own = have_own_names(alloc, ends)?;
+    Ok(own && ends.len() < 1 << 32 && are_lawful_ends(ends))
 }

@@ -1,0 +1,4 @@
+mod Leaves
+mod Returned
+mod Runs
+mod Steady

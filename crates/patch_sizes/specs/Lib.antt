@@ -1,0 +1,4 @@
+pub mod PatchSizes
+pub mod Sizes
+pub mod Splits
+pub mod StmtSizes

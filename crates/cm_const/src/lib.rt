@@ -9,4 +9,4 @@ mod operations;
 mod tests;
 
 pub use numbers::{computed, computed_alone};
-pub use operations::{operate, operate_alone};
+pub use operations::{converted, operate, operate_alone};

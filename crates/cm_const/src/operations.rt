@@ -26,9 +26,9 @@ fn bits(kind: Scalar) -> u32
     }
 }
 
-// The constant of a kind that a number is converted to.
+/// The constant of a kind that a number is converted to.
 #[tactic(auto, using(crate::proofs::Sound::sound_kind, cm_types::specs::Meant::meant_types))]
-fn constant(kind: Scalar, number: i64) -> Valued
+pub fn converted(kind: Scalar, number: i64) -> Valued
     requires { IsLawfulScalar kind }
     ensures ty { meant_type result.ty ≡ Single kind }
     ensures value { meant_value result.value ≡ types.scalar_value kind number }
@@ -49,7 +49,7 @@ fn in_kind(op: Binary, kind: Scalar, left: i64, right: i64) -> Option<Valued>
     ensures sound { IfSome result (λ found. IsSound (meant_valued found)) }
 {
     let number = computed(op, left, right, bits(kind))?;
-    Some(constant(kind, number))
+    Some(converted(kind, number))
 }
 
 /// What an operator gives for two constants, in its type: nothing where it does not take them or divides by 0.
@@ -74,5 +74,5 @@ pub fn operate_alone(op: Unary, one: &Valued) -> Option<Valued>
 {
     let kind = operated_alone(op, &one.ty)?;
     let number = computed_alone(op, one.value.number()?, bits(kind));
-    Some(constant(kind, number))
+    Some(converted(kind, number))
 }

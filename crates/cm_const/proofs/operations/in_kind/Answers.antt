@@ -16,5 +16,5 @@ returns-clause-value c =
     ∙ ap (computed c.args.op (width_of c.bits.result) c.args.left) (to_z-of_z w64 c.args.right c.ranges.right)
     in
     let number : to_z w64 (of_z w64 c.in_ok-number.number) ≡ c.in_ok-number.number = search rules in
-    in_kind_is c.args.op c.args.kind (width_of c.bits.result) c.args.left c.args.right c.in_ok-number.number _ (meant_value c.constant.result.value)
-    c.bits.ensures.value told c.constant.ensures.ty (c.constant.ensures.value ∙ ap (scalar_value c.args.kind) number)
+    in_kind_is c.args.op c.args.kind (width_of c.bits.result) c.args.left c.args.right c.in_ok-number.number _ (meant_value c.converted.result.value)
+    c.bits.ensures.value told c.converted.ensures.ty (c.converted.ensures.value ∙ ap (scalar_value c.args.kind) number)

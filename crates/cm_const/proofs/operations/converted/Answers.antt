@@ -4,7 +4,7 @@ use Rattle.std.proofs.lemmas.Int.{to_z-of_z}
 use Rattle.cm_types.specs.Meant.{meant-Single, meant_value}
 use Rattle.cm_meaning.specs.Types.{scalar_value}
 use Rattle.cm_const.proofs.Sound.{sound_kind}
-use Rattle.cm_const.proofs.operations.constant.Goals as goal
+use Rattle.cm_const.proofs.operations.converted.Goals as goal
 
 pub returns-clause-sound : goal.returns-clause-sound
 returns-clause-sound c =

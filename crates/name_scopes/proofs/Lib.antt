@@ -3,3 +3,8 @@ mod NumberLemmas
 mod ApartLemmas
 mod ExactLemmas
 mod SpaceLemmas
+mod MemberLemmas
+mod AddLemmas
+mod OpenLemmas
+mod BuildLemmas
+mod FindLemmas

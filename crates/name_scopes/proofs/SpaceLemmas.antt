@@ -21,7 +21,7 @@ and-right : (a b : Bool) → (a && b) ≡ true → b ≡ true
 and-right true b h = h
 and-right false b h = absurd (true≢false (sym h))
 
-space-equal : (s t : Space) → is_space s t ≡ true → s ≡ t
+pub space-equal : (s t : Space) → is_space s t ≡ true → s ≡ t
 unfolding is_space
 space-equal [] [] h = refl
 space-equal [] (k ∷ t) h = absurd (true≢false (sym h))
@@ -30,7 +30,7 @@ space-equal (n ∷ s) (k ∷ t) h =
     let e = (bytes_eq-Decides n k).0 (and-left (bytes_eq n k) (is_space s t) h) in
     let i = space-equal s t (and-right (bytes_eq n k) (is_space s t) h) in ap (λ z. z ∷ s) e ∙ ap (λ z. k ∷ z) i
 
-space-same : (s : Space) → is_space s s ≡ true
+pub space-same : (s : Space) → is_space s s ≡ true
 unfolding is_space
 space-same [] = refl
 space-same (n ∷ s) = rw ((bytes_eq-Decides n n).1 refl) (space-same s)
@@ -45,7 +45,7 @@ any-here s (t ∷ spaces) (suc j) below is = rw (any-here s spaces j (omega (ari
   or-true true = refl
   or-true false = refl
 
-distinct-places : (spaces : List Space) (i j : ℕ) → AreDistinct spaces → i < length spaces → j < length spaces → slice_index_or spaces i [] ≡ slice_index_or spaces j [] → i ≡ j
+pub distinct-places : (spaces : List Space) (i j : ℕ) → AreDistinct spaces → i < length spaces → j < length spaces → slice_index_or spaces i [] ≡ slice_index_or spaces j [] → i ≡ j
 distinct-places [] i j h a b e = absurd (omega (arith, a))
 distinct-places (s ∷ spaces) zero zero h a b e = refl
 distinct-places (s ∷ spaces) zero (suc j) h a b e = absurd (true≢false (sym (any-here s spaces j (omega (arith, b)) e) ∙ h.0))

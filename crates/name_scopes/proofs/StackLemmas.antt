@@ -20,7 +20,7 @@ snoc-front (a ∷ []) [] x y e = cc
 snoc-front (a ∷ c ∷ s) [] x y e = cc
 snoc-front (a ∷ s) (b ∷ t) x y e = let i = snoc-front s t x y cc in (let j = i.0 in cc, i.1)
 
-no-snoc : {A : Type 0} (s : List A) (x : A) → [] ≡ s ++ x ∷ [] → ⊥
+pub no-snoc : {A : Type 0} (s : List A) (x : A) → [] ≡ s ++ x ∷ [] → ⊥
 no-snoc [] x e = cc
 no-snoc (a ∷ s) x e = cc
 

@@ -1,6 +1,6 @@
-use crate::{Names, Spaces, Table, check_apart, check_unit};
+use crate::{Names, Scopes, Spaces, Table, check_apart, check_unit};
 use cm_base::{Cause, Fail, Items, Name, Place};
-use cm_tree::{Expr, Init, Member, Param, Shared, UnitDecl, Var, Word};
+use cm_tree::{Decl, Expr, File, Init, Member, Param, Path, Shared, UnitDecl, Var, Word};
 use std::alloc::{AllocError, Global};
 use std::test;
 
@@ -186,5 +186,80 @@ fn keeps_members_apart(rt: HostRuntime) -> Result<(), test::Fail> {
             "at {parameter} {constant} {state} {other}"
         );
     }
+    Ok(())
+}
+
+fn namespace(alloc: Global, texts: &[&str], column: u32, decl: Decl) -> Result<Decl, AllocError> {
+    let mut names = Vec::new(alloc);
+    for text in texts {
+        names.push(Name::from_str(alloc, text)?)?;
+    }
+    let mut decls = Vec::new(alloc);
+    decls.push(decl)?;
+    let path = Path {
+        place: place(column),
+        names: Items::from_vec(names),
+    };
+    Ok(Decl::Namespace(place(column), path, Items::from_vec(decls)))
+}
+
+fn constant(alloc: Global, text: &str, column: u32) -> Result<Decl, AllocError> {
+    Ok(Decl::Shared(Shared::Let(place(column), inits(alloc, text, column)?)))
+}
+
+fn file(alloc: Global, decl: Decl) -> Result<File, AllocError> {
+    let mut decls = Vec::new(alloc);
+    decls.push(decl)?;
+    Ok(File {
+        decls: Items::from_vec(decls),
+    })
+}
+
+// Where the scopes of two files of one declaration each are refused: 0 where they aren't.
+fn built(alloc: Global, first: Decl, second: Decl) -> Result<Option<u32>, AllocError> {
+    let mut files = Vec::new(alloc);
+    files.push(file(alloc, first)?)?;
+    files.push(file(alloc, second)?)?;
+    match Scopes::build(alloc, &files) {
+        Ok(_scopes) => Ok(Some(0)),
+        Err(fail) => Ok(refused_at(Err(fail))),
+    }
+}
+
+// namespace a::b { let c = true; } in one file, and another in a second
+fn parts(alloc: Global, path: &[&str], text: &str) -> Result<Option<u32>, AllocError> {
+    let first = namespace(alloc, &["a", "b"], 1, constant(alloc, "c", 2)?)?;
+    let second = namespace(alloc, path, 8, constant(alloc, text, 9)?)?;
+    built(alloc, first, second)
+}
+
+// Parts of a namespace are one scope, and another declaration of its name isn't a part.
+#[test]
+fn builds_namespaces(rt: HostRuntime) -> Result<(), test::Fail> {
+    let rows: [(&[&str], &str, u32); 5] = [
+        (&["a", "b"], "d", 0),
+        (&["a", "b"], "c", 9),
+        (&["a"], "b", 9),
+        (&["a", "c"], "c", 0),
+        (&["b", "a"], "c", 0),
+    ];
+    for (path, text, want) in rows {
+        assert!(rt; parts(rt.alloc(), path, text)? == Some(want), "at {text}");
+    }
+    Ok(())
+}
+
+// A processor after a constant of another file.
+fn beside(alloc: Global, state: &str, text: &str) -> Result<Option<u32>, AllocError> {
+    let unit = unit(alloc, "T", "a", state, "c")?;
+    built(alloc, Decl::Processor(unit), constant(alloc, text, 9)?)
+}
+
+// Members of a processor are looked at once all namespaces are right.
+#[test]
+fn builds_processors(rt: HostRuntime) -> Result<(), test::Fail> {
+    assert!(rt; beside(rt.alloc(), "b", "a")? == Some(0));
+    assert!(rt; beside(rt.alloc(), "a", "b")? == Some(3));
+    assert!(rt; beside(rt.alloc(), "a", "P")? == Some(9));
     Ok(())
 }

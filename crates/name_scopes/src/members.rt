@@ -1,0 +1,177 @@
+ghost use Rattle.std.specs.Prelude.{◌≡◌, ◌<◌, ◌∷◌, [], ◌++◌, ◌&&◌, false, not, length, option_and_then, slice_get, slice_index_or, OnOk, OnErr, IfOk, Some};
+ghost use Rattle.std.specs.List.{list_any};
+ghost use Rattle.cm_meaning.specs.NameFaults.{clashes};
+ghost use Rattle.cm_meaning.specs.Scopes.{find_in, space_names};
+ghost use Rattle.name_scopes.specs.Openings.{AreDistinct, inner};
+ghost use Rattle.name_scopes.specs.Members.{Adds, IsBelow, declared_in, is_part, names_of, part_of};
+
+use crate::named::{Member, Named};
+use crate::spaces::Spaces;
+use cm_base::{Cause, Fail, Items, Place, Refused};
+use indexmap::IndexMap;
+use std::alloc::{AllocError, Global};
+use std::marker::Model;
+
+/// The declarations of the namespaces of a patch, in the order in which they were given, with numbers from 0. Two of one name
+/// in one namespace are parts of one namespace. Contracts see the namespaces, and the declarations.
+#[derive(Drop)]
+pub struct Members<'a> {
+    spaces: Spaces<'a>,
+    names: Items<Member<'a>>,
+    // the number of the first declaration of each name in each namespace
+    firsts: IndexMap<(usize, &'a str), usize>,
+}
+
+impl<'a> Model for Members<'a> {
+    ghost use Rattle.std.specs.Coded.{codes};
+    ghost use Rattle.cm_tree.specs.contracts.expr.Base as base;
+    ghost use Rattle.cm_tree.specs.contracts.expr.Expr as expr;
+    ghost use Rattle.cm_tree.specs.contracts.stmt.Stmt as stmt;
+    ghost use Rattle.name_scopes.specs.Members.{Known, AreIndexed};
+
+    ghost Value = { Known };
+
+    ghost coded = { Prim.hlevel (codes, base.the_row.coded, expr.the_row.coded, stmt.the_row.coded) };
+
+    ghost view = { λ m. record { spaces = m.spaces; members = m.names } };
+
+    ghost invariant = { λ m. AreIndexed m.spaces m.names m.firsts.entries };
+}
+
+fn is_namespace(named: &Named<'_>) -> bool
+    ensures { result ≡ is_part named.now }
+{
+    match named {
+        Named::Namespace(_) => true,
+        Named::Processor(_) => false,
+        Named::Graph(_) => false,
+        Named::Struct(_, _) => false,
+        Named::Using(_) => false,
+        Named::Constant(_) => false,
+        Named::Function(_) => false,
+    }
+}
+
+// Whether two declarations of one name are no parts of one namespace.
+fn differ(a: &Named<'_>, b: &Named<'_>) -> bool
+    ensures { result ≡ not (is_part a.now && is_part b.now) }
+{
+    !(is_namespace(a) && is_namespace(b))
+}
+
+fn refused(alloc: Global, place: Place) -> Fail
+    ensures { result ≡ Fail.Refused (record { cause = Cause.DuplicateName; place = place; cycle = [] }) }
+{
+    Fail::Refused(Refused {
+        cause: Cause::DuplicateName,
+        place,
+        cycle: Items::new(alloc),
+    })
+}
+
+impl<'a> Members<'a> {
+    /// The whole patch, with no declarations.
+    pub fn new(alloc: Global) -> Members<'a>
+        ensures { result ≡ record { spaces = [] ∷ []; members = [] } }
+    {
+        Members {
+            spaces: Spaces::new(alloc),
+            names: Items::new(alloc),
+            firsts: IndexMap::new(alloc),
+        }
+    }
+
+    // Whether the name that this declares stands in its namespace already, other than for another part of what is declared.
+    fn clashes(&self, member: &Member<'a>) -> bool
+        requires distinct { AreDistinct self.now.spaces }
+        requires below { IsBelow (length self.now.spaces) member.now }
+        ensures { result ≡ list_any (clashes (declared_in self.now.spaces member.now)) (names_of self.now) }
+    {
+        match self.firsts.get(&(member.space, member.text)) {
+            None => false,
+            Some(first) => match self.names.get(*first) {
+                None => false,
+                Some(other) => differ(&member.named, &other.named),
+            },
+        }
+    }
+
+    // Puts a declaration behind the others, which it doesn't clash with.
+    fn push(&mut self, member: Member<'a>) -> Result<(), AllocError>
+        requires distinct { AreDistinct self.old.spaces }
+        requires below { IsBelow (length self.old.spaces) member }
+        requires free { list_any (clashes (declared_in self.old.spaces member)) (names_of self.old) ≡ false }
+        ensures ok { OnOk result (self.new ≡ record { spaces = self.old.spaces; members = self.old.members ++ member.entry ∷ [] }) }
+        ensures err { OnErr result (self.new ≡ self.old) }
+    {
+        let number = self.names.len();
+        self.names.push(member)?;
+        if self.firsts.contains_key(&(member.space, member.text)) {
+            return Ok(());
+        }
+        match self.firsts.insert((member.space, member.text), number) {
+            Ok(_none) => Ok(()),
+            Err(_error) => {
+                self.names.pop();
+                Err(AllocError)
+            }
+        }
+    }
+
+    /// Adds a declaration. Refused by `DuplicateName` at one whose name stands in its namespace already.
+    pub fn declare(&mut self, alloc: Global, member: Member<'a>) -> Result<(), Fail>
+        requires { IsBelow (length self.old.spaces) member }
+        ensures adds { Adds self.old (declared_in self.old.spaces member.entry ∷ []) result self.new }
+        ensures spaces { self.new.spaces ≡ self.old.spaces }
+    {
+        // No two namespaces are one.
+        let _count = self.spaces.count();
+        if self.clashes(&member) {
+            return Err(refused(alloc, member.place));
+        }
+        self.push(member)?;
+        Ok(())
+    }
+
+    /// Adds a part of the namespace of this name in another, and answers the number of the namespace.
+    pub fn open(
+        &mut self,
+        alloc: Global,
+        space: usize,
+        place: Place,
+        text: &'a str,
+    ) -> Result<usize, Fail>
+        requires { space < length self.old.spaces }
+        ensures adds { Adds self.old (part_of self.old.spaces space place text.now ∷ []) result self.new }
+        ensures number { IfOk result (λ n. slice_get self.new.spaces n ≡ Some (inner self.old.spaces space text.now)) }
+    {
+        let inner = self.spaces.open(space, text)?;
+        self.declare(
+            alloc,
+            Member {
+                space,
+                place,
+                text,
+                named: Named::Namespace(inner),
+            },
+        )?;
+        Ok(inner)
+    }
+
+    /// The number of what a name finds in a namespace: its first declaration there.
+    pub fn find(&self, space: usize, text: &'a str) -> Option<usize>
+        requires { space < length self.now.spaces }
+        ensures { option_and_then (slice_get (names_of self.now)) result ≡ find_in text.now (space_names (names_of self.now) (slice_index_or self.now.spaces space [])) }
+    {
+        // No two namespaces are one.
+        let _count = self.spaces.count();
+        self.firsts.get(&(space, text)).copied()
+    }
+
+    /// The declarations, each at its number.
+    pub fn as_slice(&self) -> &[Member<'a>]
+        ensures { result.now ≡ self.now.members }
+    {
+        self.names.as_slice()
+    }
+}

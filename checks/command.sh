@@ -33,6 +33,17 @@ printf 'what it held' >"$out"
 expect 5 "refused NotYet $dir/other/through.cmajor:1:1" compile "$dir/other/through.cmajorpatch" "$out"
 holds "$out" 'what it held'
 
+# the second of two sources is refused under its own name, and the form may stand in either
+echo '{"CmajorVersion":1,"ID":"x.p","source":["none.cmajor","two.cmajor"]}' >"$dir/two.cmajorpatch"
+printf '// nothing\n' >"$dir/none.cmajor"
+printf 'let a = 1.5;' >"$dir/two.cmajor"
+expect 5 "refused Float $dir/two.cmajor:1:9" compile "$dir/two.cmajorpatch" "$out"
+printf 'processor P\n' >"$dir/two.cmajor"
+expect 5 "refused Grammar $dir/two.cmajor:2:1" compile "$dir/two.cmajorpatch" "$out"
+holds "$out" 'what it held'
+cp -- examples/through/through.cmajor "$dir/two.cmajor"
+expect 0 "" compile "$dir/two.cmajorpatch" "$out"
+
 expect 0 "" compile "$patch" "$out"
 holds <(head -c 4 "$out" | tr '\0' 0) 0asm
 exit "$failed"

@@ -124,7 +124,7 @@ def check_citations():
     offered = [f"Rattle.{name.replace('/', '.')}." for name in re.findall(r"`(\w+/proofs[\w/]*)`", section[1])]
     for file in SOURCES:
         for cited, crate in re.findall(r"^(?:ghost )?use ((?:Rattle)\.(\w+)\.proofs\.\S*)", file.read_text(), re.M):
-            if crate in CRATES and crate != file.parts[1] and not cited.startswith(tuple(offered)):
+            if crate in CRATES and crate != file.parts[1] and not f"{cited}.".startswith(tuple(offered)):
                 fault(file, f"{cited} is the inside of {crate}: {page} doesn't offer it")
 
 

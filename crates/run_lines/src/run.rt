@@ -1,0 +1,102 @@
+// Runs whose items are told.
+
+ghost use Rattle.std.specs.Prelude.{◌≡◌, ◌<◌, ◌^◌, [], length, map};
+ghost use Rattle.cm_base.specs.Scripts.{IsScriptFor};
+ghost use Rattle.item_lines.specs.Hearing.{ear};
+ghost use Rattle.item_lines.specs.Telling.{mouth};
+ghost use Rattle.wasm_tree.specs.HostRun.{host_run};
+ghost use Rattle.wasm_tree.specs.Section.{ends_of};
+ghost use Rattle.run_lines.specs.Runs.{RunTells};
+
+use crate::ending::{RunEnd, run_end};
+use crate::outlet::Outlet;
+use cm_base::{Items, Script};
+use cm_io::{Listener, Sink};
+use item_lines::Told;
+use module_player::play;
+use std::alloc::Global;
+use wasm_valid::{Slots, Valid};
+
+// The run, whose items the outlet tells.
+fn tell_into<'a, 'b, 'c, O: Sink, L: Listener>(
+    alloc: Global,
+    valid: Valid,
+    script: &Script,
+    steps: u64,
+    outlet: &mut Outlet<'a, 'b, 'c, O, L>,
+) -> RunEnd
+    requires script { IsScriptFor (ends_of valid.section) script.now }
+    requires slots { outlet.old.slots.now ≡ valid.section.slots }
+    ensures told { RunTells (ends_of valid.section) (host_run valid.of valid.section [] script.now script.now.frames steps)
+        (record { out = mouth (O.written outlet.old.out.now) (O.faults outlet.old.out.now) (O.refusals outlet.old.out.now); ears = map (λ l. ear (L.heard l) (L.count l) (L.faults l) (L.refusals l)) outlet.old.listeners.now.items })
+        (record { out = mouth (O.written outlet.new.out.now) (O.faults outlet.new.out.now) (O.refusals outlet.new.out.now); ears = map (λ l. ear (L.heard l) (L.count l) (L.faults l) (L.refusals l)) outlet.new.listeners.now.items })
+        result }
+    ensures out { outlet.new.out.ghost_name ≡ outlet.old.out.ghost_name }
+    ensures line { outlet.new.line.ghost_name ≡ outlet.old.line.ghost_name }
+    ensures listeners { outlet.new.listeners.ghost_name ≡ outlet.old.listeners.ghost_name }
+{
+    let _lawful = valid.host();
+    match play(alloc, valid, &Items::new(alloc), script, steps, outlet) {
+        Ok(came) => run_end(came, outlet.last),
+        Err(_) => RunEnd::NoMemory,
+    }
+}
+
+// The run, with these slots of the module and room for lines.
+fn tell_with<O: Sink, L: Listener>(
+    alloc: Global,
+    valid: Valid,
+    script: &Script,
+    steps: u64,
+    line: &mut Vec<u8>,
+    slots: &Slots,
+    out: &mut O,
+    listeners: &mut Vec<L>,
+) -> RunEnd
+    requires few { length listeners.old.items < 2 ^ 31 }
+    requires script { IsScriptFor (ends_of valid.section) script.now }
+    requires slots { slots.now ≡ valid.section.slots }
+    ensures told { RunTells (ends_of valid.section) (host_run valid.of valid.section [] script.now script.now.frames steps)
+        (record { out = mouth (O.written out.old) (O.faults out.old) (O.refusals out.old); ears = map (λ l. ear (L.heard l) (L.count l) (L.faults l) (L.refusals l)) listeners.old.items })
+        (record { out = mouth (O.written out.new) (O.faults out.new) (O.refusals out.new); ears = map (λ l. ear (L.heard l) (L.count l) (L.faults l) (L.refusals l)) listeners.new.items })
+        result }
+{
+    let mut outlet = Outlet {
+        line,
+        slots,
+        out,
+        listeners,
+        last: Told::Heard,
+    };
+    tell_into(alloc, valid, script, steps, &mut outlet)
+}
+
+/// Plays a valid module over a script, with at most `steps` reductions for each part. Its parameters begin with the values of
+/// their ranges. The line of each item of the trace is put to `out` as one piece, and then the listeners hear the item, until
+/// the run ends, a part doesn't, a line isn't put or a listener doesn't take the item. The memory of the run is taken before
+/// its first call.
+pub fn tell_run<O: Sink, L: Listener>(
+    alloc: Global,
+    valid: Valid,
+    script: &Script,
+    steps: u64,
+    out: &mut O,
+    listeners: &mut Vec<L>,
+) -> RunEnd
+    requires few { length listeners.old.items < 2 ^ 31 }
+    requires script { IsScriptFor (ends_of valid.section) script.now }
+    // The items of the module's run are told as they come, all of them or up to one that isn't heard, and it ends by them.
+    ensures told { RunTells (ends_of valid.section) (host_run valid.of valid.section [] script.now script.now.frames steps)
+        (record { out = mouth (O.written out.old) (O.faults out.old) (O.refusals out.old); ears = map (λ l. ear (L.heard l) (L.count l) (L.faults l) (L.refusals l)) listeners.old.items })
+        (record { out = mouth (O.written out.new) (O.faults out.new) (O.refusals out.new); ears = map (λ l. ear (L.heard l) (L.count l) (L.faults l) (L.refusals l)) listeners.new.items })
+        result }
+{
+    let slots = match valid.slots(alloc) {
+        Ok(slots) => slots,
+        Err(_) => return RunEnd::NoMemory,
+    };
+    let mut line = Vec::new(alloc);
+    tell_with(
+        alloc, valid, script, steps, &mut line, &slots, out, listeners,
+    )
+}

@@ -46,4 +46,29 @@ expect 0 "" compile "$dir/two.cmajorpatch" "$out"
 
 expect 0 "" compile "$patch" "$out"
 holds <(head -c 4 "$out" | tr '\0' 0) 0asm
+
+# the compiled example puts the lines that it is to
+script=examples/through/script.json
+"$built" play "$out" "$script" 100 >"$dir/lines" 2>"$dir/stderr" || differs "play: status $?"
+same examples/through/lines.txt "$dir/lines"
+holds "$dir/stderr" "listener 0 heard 3"
+expect 1 "usage" play "$out" "$script"
+expect 1 "usage" play "$out" "$script" 72057594037927937
+expect 2 "absent $dir/none.wasm" play "$dir/none.wasm" "$script" 100
+expect 3 "read fault $dir/folder" play "$out" "$dir/folder" 100
+printf '{"frames":1,"streams":{"out":[1]}}' >"$dir/script.json"
+expect 7 "input refused Endpoint Streams 0" play "$out" "$dir/script.json" 100
+head -c 122 "$out" >"$dir/short.wasm"
+expect 8 "module refused Size 122" play "$dir/short.wasm" "$script" 100
+expect 10 "steps spent init" play "$out" "$script" 0
+expect 10 "steps spent frame 0" play "$out" "$script" 2
+truncate -s 33554433 "$dir/long.wasm"
+expect 4 "too big $dir/long.wasm" play "$dir/long.wasm" "$script" 100
+
+# a full device and a closed stream take no line
+"$built" play "$out" "$script" 100 >/dev/full 2>"$dir/stderr"
+[ $? -eq 12 ] || differs "a full device isn't told"
+holds "$dir/stderr" "write fault out"
+"$built" play "$out" "$script" 100 >&- 2>"$dir/stderr"
+[ $? -eq 12 ] || differs "a closed stream isn't told"
 exit "$failed"

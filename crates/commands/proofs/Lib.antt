@@ -3,3 +3,4 @@ pub mod StepLemmas
 pub mod ManifestLemmas
 pub mod PatchLemmas
 pub mod EndLemmas
+pub mod PlayLemmas

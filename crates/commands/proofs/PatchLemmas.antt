@@ -12,14 +12,13 @@ use Rattle.cm_front.specs.Answer.{IfRefused, IsRefusal}
 use Rattle.cm_front.specs.Phases.{bytes_in}
 use Rattle.cm_io.specs.Files.{Files}
 use Rattle.cm_io.specs.Seen.{Seen, OnlyRead}
-use Rattle.cm_tree.specs.Patch.{Patch}
 use Rattle.commands.specs.declared.status.FileRef.{FileRef}
 use Rattle.commands.specs.declared.status.FileRef.TheVariants as file
 use Rattle.commands.specs.declared.status.Status.{Status}
 use Rattle.commands.specs.declared.status.Status.TheVariants as status
 use Rattle.commands.specs.declared.stop.Stop.{Stop}
 use Rattle.commands.specs.Files.{HasFile, IsPatchFile, Unread, least_limit}
-use Rattle.commands.specs.Patch.{SourcesOf, HaveTexts, MeanPatch, PatchOf, RefusesTexts, Phase, NoSources, LackTexts, NoPatch, all_sources}
+use Rattle.commands.specs.Patch.{SourcesOf, HaveTexts, NamePatch, NamedPatchOf, RefusesTexts, Phase, NoSources, LackTexts, NoPatch, all_sources}
 use Rattle.commands.specs.Statuses.{status_of}
 use Rattle.commands.specs.Steps.{Stopped, PatchRefused, OutOfMemory, Refuses, Refusal, LacksMemory}
 use Rattle.commands.proofs.StepLemmas.{told, told_both, told_all, stop_of, stop_later, about_err}
@@ -117,9 +116,9 @@ named_refusal texts failure given step (Err stop) is gives (inr e) refused = sub
 
 -- ---- the patch
 
-pub patch_found : (before mid : Seen) (manifest : List ℕ) (names texts : List (List ℕ)) (patch : Patch) → OnlyRead before mid → IfSome before.holds (λ files. SourcesOf files manifest names)
-    → IfSome mid.holds (λ files. HaveTexts files all_sources names texts) → MeanPatch texts patch → IfSome before.holds (λ files. PatchOf files manifest patch)
-patch_found before mid manifest names texts patch read named have mean =
+pub patch_found : (before mid : Seen) (manifest : List ℕ) (names texts : List (List ℕ)) (input output : List ℕ) → OnlyRead before mid → IfSome before.holds (λ files. SourcesOf files manifest names)
+    → IfSome mid.holds (λ files. HaveTexts files all_sources names texts) → NamePatch texts input output → IfSome before.holds (λ files. NamedPatchOf files manifest input output)
+patch_found before mid manifest names texts input output read named have mean =
     told_both before.holds _ _ _ (λ files n h. record { names = names; texts = texts; named = n; have = h; mean = mean }) named
     (subst (λ (h : Option Files). IfSome h (λ files. HaveTexts files all_sources names texts)) read.files have)
 
@@ -139,7 +138,7 @@ sources_stop before mid after manifest names s first second named stop =
 pub meaning_stop : (before mid after : Seen) (manifest : List ℕ) (names texts : List (List ℕ)) (s : Status) → OnlyRead before mid → OnlyRead mid after → IfSome before.holds (λ files. SourcesOf files manifest names)
     → IfSome mid.holds (λ files. HaveTexts files all_sources names texts) → Refuses (RefusesTexts texts) s → Stopped before after IsPatchFile (λ files. NoPatch files manifest) s
 meaning_stop before mid after manifest names texts s first second named have (Refusal refused d) =
-    PatchRefused refused
+    PatchRefused refused tt
     (told_both before.holds _ _ _ (λ files n h. inr (names, n, inr (record { texts = texts; have = h; refuses = d }))) named
     (subst (λ (h : Option Files). IfSome h (λ files. HaveTexts files all_sources names texts)) first.files have))
 meaning_stop before mid after manifest names texts s first second named have LacksMemory = OutOfMemory

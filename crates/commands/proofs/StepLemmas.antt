@@ -6,11 +6,12 @@ use Rattle.cm_io.specs.Count.{Rose}
 use Rattle.cm_io.specs.Files.{Files}
 use Rattle.cm_io.specs.Seen.{Seen, CountsStay, OnlyRead}
 use Rattle.commands.specs.declared.status.FileRef.{FileRef}
+use Rattle.commands.specs.declared.status.FileRef.TheVariants as file
 use Rattle.commands.specs.declared.status.Status.{Status}
 use Rattle.commands.specs.declared.status.Status.TheVariants as status
 use Rattle.commands.specs.declared.stop.Stop.{Stop}
 use Rattle.commands.specs.Files.{AfterFile, HasFile, IsPatchFile, Unread}
-use Rattle.commands.specs.Steps.{Stopped, FileAbsent, ReadFailed, FileTooBig, PatchRefused, OutOfMemory, Refuses, Refusal, LacksMemory}
+use Rattle.commands.specs.Steps.{Stopped, FileAbsent, ReadFailed, FileTooBig, PatchRefused, ModuleIsRefused, ScriptRefused, OutOfMemory, Refuses, Refusal, LacksMemory}
 
 -- ---- what is told
 
@@ -45,7 +46,9 @@ pub stop_of : (before after : Seen) (reads reads' : FileRef → Type 0) (P : Fil
 stop_of before after reads reads' P due due' s more is goes (FileAbsent f r rose d) = FileAbsent f (more f r) rose (told_both before.holds P _ _ (λ files. goes files (status.Absent f)) is d)
 stop_of before after reads reads' P due due' s more is goes (ReadFailed f r rose) = ReadFailed f (more f r) rose
 stop_of before after reads reads' P due due' s more is goes (FileTooBig f n r past d) = FileTooBig f n (more f r) past (told_both before.holds P _ _ (λ files. goes files (status.TooBig f n)) is d)
-stop_of before after reads reads' P due due' s more is goes (PatchRefused r d) = PatchRefused r (told_both before.holds P _ _ (λ files. goes files (status.Refused r)) is d)
+stop_of before after reads reads' P due due' s more is goes (PatchRefused r m d) = PatchRefused r (more file.Manifest m) (told_both before.holds P _ _ (λ files. goes files (status.Refused r)) is d)
+stop_of before after reads reads' P due due' s more is goes (ModuleIsRefused r m d) = ModuleIsRefused r (more file.Module m) (told_both before.holds P _ _ (λ files. goes files (status.ModuleRefused r)) is d)
+stop_of before after reads reads' P due due' s more is goes (ScriptRefused f m d) = ScriptRefused f (more file.Input m) (told_both before.holds P _ _ (λ files. goes files (status.InputRefused f)) is d)
 stop_of before after reads reads' P due due' s more is goes OutOfMemory = OutOfMemory
 
 -- a step stops that comes after others which only read
@@ -54,7 +57,9 @@ pub stop_later : (before mid after : Seen) (reads : FileRef → Type 0) (due : F
 stop_later before mid after reads due s read stay (FileAbsent f r rose d) = FileAbsent f r (rose_later _ _ _ read.counts.absences stay.absences rose) (subst (λ (h : Option Files). IfSome h (λ files. due files (status.Absent f))) read.files d)
 stop_later before mid after reads due s read stay (ReadFailed f r rose) = ReadFailed f r (rose_later _ _ _ read.counts.faults stay.faults rose)
 stop_later before mid after reads due s read stay (FileTooBig f n r past d) = FileTooBig f n r past (subst (λ (h : Option Files). IfSome h (λ files. due files (status.TooBig f n))) read.files d)
-stop_later before mid after reads due s read stay (PatchRefused r d) = PatchRefused r (subst (λ (h : Option Files). IfSome h (λ files. due files (status.Refused r))) read.files d)
+stop_later before mid after reads due s read stay (PatchRefused r m d) = PatchRefused r m (subst (λ (h : Option Files). IfSome h (λ files. due files (status.Refused r))) read.files d)
+stop_later before mid after reads due s read stay (ModuleIsRefused r m d) = ModuleIsRefused r m (subst (λ (h : Option Files). IfSome h (λ files. due files (status.ModuleRefused r))) read.files d)
+stop_later before mid after reads due s read stay (ScriptRefused f m d) = ScriptRefused f m (subst (λ (h : Option Files). IfSome h (λ files. due files (status.InputRefused f))) read.files d)
 stop_later before mid after reads due s read stay OutOfMemory = OutOfMemory
 
 pub told_all : (held : Option Files) → IfSome held (λ files. Unit {0})
@@ -70,7 +75,7 @@ unread_stop before after f name limit decide s is stop =
 -- a file whose bytes are refused
 pub refused_stop : (before after : Seen) (f : FileRef) (name bytes : List ℕ) (limit : ℕ) (decide : List ℕ → Status → Type 0) (s : Status) →
     IfSome before.holds (λ files. HasFile files name limit bytes) → Refuses (decide bytes) s → Stopped before after IsPatchFile (λ files. AfterFile files f name limit decide) s
-refused_stop before after f name bytes limit decide s has (Refusal r d) = PatchRefused r (told before.holds _ _ (λ files h. inr (record { bytes = bytes; file = h; holds = d })) has)
+refused_stop before after f name bytes limit decide s has (Refusal r d) = PatchRefused r tt (told before.holds _ _ (λ files h. inr (record { bytes = bytes; file = h; holds = d })) has)
 refused_stop before after f name bytes limit decide s has LacksMemory = OutOfMemory
 
 -- ---- results

@@ -1,15 +1,17 @@
 -- The status that is due by the words and by what the folder holds: docs/COMMANDS.md, "The order of work".
 use Rattle.std.specs.Prelude.{ℕ, ◌≡◌, ◌⊎◌, List, MatchOption}
 use Rattle.cm_io.specs.Files.{Files}
-use Rattle.cm_tree.specs.Patch.{Patch}
+use Rattle.cm_meaning.specs.Linked.{Linked}
 use Rattle.commands.specs.declared.status.Status.{Status}
 use Rattle.commands.specs.declared.status.Status.TheVariants as status
 use Rattle.commands.specs.Patch.{PatchOf, NoPatch}
-use Rattle.commands.specs.Words.{Command, Compile, command_of}
+use Rattle.commands.specs.Playing.{IsPlayDue}
+use Rattle.commands.specs.Words.{Command, Compile, Play, command_of}
 
--- of `compile`: there is no patch, or its module can be made
+-- of `compile`: there is no patch, or its module can be made; of `play`: there is no module or no script, or the run decides
 abbrev pub IsDueFor : Command → Files → Status → Type 0
-IsDueFor (Compile manifest out) files due = NoPatch files manifest due ⊎ ((patch : Patch) × PatchOf files manifest patch × (due ≡ status.Ok))
+IsDueFor (Compile manifest out) files due = NoPatch files manifest due ⊎ ((patch : Linked) × PatchOf files manifest patch × (due ≡ status.Ok))
+IsDueFor (Play wasm input steps) files due = IsPlayDue files wasm input steps due
 
 -- the status is due
 abbrev pub IsDue : Files → List (List ℕ) → Status → Type 0

@@ -24,6 +24,14 @@ IsPatchFile file.State = ⊥
 IsPatchFile file.Input = ⊥
 IsPatchFile file.Module = ⊥
 
+-- the files of `play`: the module and the script
+abbrev pub IsPlayFile : FileRef → Type 0
+IsPlayFile file.Manifest = ⊥
+IsPlayFile (file.Source number) = ⊥
+IsPlayFile file.State = ⊥
+IsPlayFile file.Input = Unit {0}
+IsPlayFile file.Module = Unit {0}
+
 -- the file of this name has these bytes, no more than its limit
 pub record HasFile (files : Files) (name : List ℕ) (limit : ℕ) (bytes : List ℕ) : Type 0 where
   pub held : file_at files name ≡ Some bytes

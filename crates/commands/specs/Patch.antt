@@ -5,8 +5,8 @@ use Rattle.cm_base.specs.declared.failure.Refused.{Refused}
 use Rattle.cm_front.specs.Answer.{IsRefusal}
 use Rattle.cm_front.specs.Phases.{IsForm}
 use Rattle.cm_io.specs.Files.{Files}
-use Rattle.cm_tree.specs.Patch.{Patch}
-use Rattle.cm_tree.specs.Through.{through_patch}
+use Rattle.cm_meaning.specs.Linked.{Linked, linked}
+use Rattle.cm_meaning.specs.Nodes.{Tree, IsTree}
 use Rattle.patch_manifest.specs.Manifest.{IsManifest, HasFault}
 use Rattle.patch_manifest.specs.SourceName.{file_name}
 use Rattle.commands.specs.declared.status.FileRef.TheVariants as file
@@ -23,13 +23,19 @@ pub record NamesSources (manifest bytes : List ℕ) (names : List (List ℕ)) : 
   pub is_manifest : IsManifest bytes id paths
   pub are_names : names ≡ map (file_name manifest) paths
 
--- the texts of the sources mean the patch
-pub record MeanPatch (texts : List (List ℕ)) (patch : Patch) : Type 0 where
+-- the texts of the sources are those of a patch of the form that is compiled, whose endpoints have these names
+pub record NamePatch (texts : List (List ℕ)) (input output : List ℕ) : Type 0 where
   pub processor : List ℕ
+  pub form : IsForm texts processor input output
+
+-- the patch is what the trees of the texts mean
+pub record MeanPatch (texts : List (List ℕ)) (patch : Linked) : Type 0 where
   pub input : List ℕ
   pub output : List ℕ
-  pub form : IsForm texts processor input output
-  pub is_patch : patch ≡ through_patch input output
+  pub named : NamePatch texts input output
+  pub tree : Tree
+  pub is_tree : IsTree named.form.files tree
+  pub is_patch : patch ≡ linked named.form.files tree
 
 -- the files hold a manifest that names these sources
 abbrev pub SourcesOf : Files → List ℕ → List (List ℕ) → Type 0
@@ -47,12 +53,20 @@ HaveTexts files left (name ∷ names) [] = ⊥
 HaveTexts files left (name ∷ names) (text ∷ texts) = HasFile files name left text × HaveTexts files (left - length text) names texts
 
 -- the files hold this patch under the manifest's name
-pub record PatchOf (files : Files) (manifest : List ℕ) (patch : Patch) : Type 0 where
+pub record PatchOf (files : Files) (manifest : List ℕ) (patch : Linked) : Type 0 where
   pub names : List (List ℕ)
   pub texts : List (List ℕ)
   pub named : SourcesOf files manifest names
   pub have : HaveTexts files all_sources names texts
   pub mean : MeanPatch texts patch
+
+-- the files hold a patch under the manifest's name whose endpoints have these names
+pub record NamedPatchOf (files : Files) (manifest input output : List ℕ) : Type 0 where
+  pub names : List (List ℕ)
+  pub texts : List (List ℕ)
+  pub named : SourcesOf files manifest names
+  pub have : HaveTexts files all_sources names texts
+  pub mean : NamePatch texts input output
 
 -- the names of its endpoints are distinct and short enough to be written in a module
 pub record AreNames (input output : List ℕ) : Type 0 where

@@ -4,14 +4,18 @@ use Rattle.cm_base.specs.declared.failure.Fail.{Fail}
 use Rattle.cm_base.specs.declared.failure.Fail.TheVariants as fail
 use Rattle.cm_io.specs.Count.{Rose}
 use Rattle.cm_io.specs.Seen.{Seen}
+use Rattle.wasm_tree.specs.declared.failure.ModuleFail.{ModuleFail}
+use Rattle.wasm_tree.specs.declared.failure.ModuleFail.TheVariants as no_module
 use Rattle.commands.specs.declared.status.FileRef.{FileRef}
 use Rattle.commands.specs.declared.status.FileRef.TheVariants as file
 use Rattle.commands.specs.declared.status.Target.{Target}
 use Rattle.commands.specs.declared.status.Target.TheVariants as target
 use Rattle.commands.specs.declared.status.Status.{Status}
 use Rattle.commands.specs.declared.status.Status.TheVariants as status
-use Rattle.commands.specs.Files.{IsPatchFile, least_limit}
-use Rattle.commands.specs.Words.{Command, Compile}
+use Rattle.commands.specs.Files.{IsPatchFile, IsPlayFile, least_limit}
+use Rattle.commands.specs.Words.{Command, Compile, Play}
+use Rattle.run_lines.specs.declared.ending.RunEnd.{RunEnd}
+use Rattle.run_lines.specs.declared.ending.RunEnd.TheVariants as run
 
 -- the number that the program exits with
 abbrev pub number_of : Status → ℕ
@@ -36,18 +40,39 @@ abbrev pub status_of : Fail → Status
 status_of (fail.Refused refused) = status.Refused refused
 status_of fail.NoMemory = status.NoMemory
 
+-- the status of a module that isn't read or isn't valid
+abbrev pub status_of_module : ModuleFail → Status
+status_of_module (no_module.Refused refused) = status.ModuleRefused refused
+status_of_module no_module.NoMemory = status.NoMemory
+
+-- the status of a run that ended so
+abbrev pub status_of_run : RunEnd → Status
+status_of_run run.Ended = status.Ok
+status_of_run (run.StepsSpent at) = status.StepsSpent at
+status_of_run (run.Trapped at) = status.Trapped at
+status_of_run run.PutFailed = status.WriteFault target.Out
+status_of_run (run.ListenerFailed number) = status.ListenerFault number
+status_of_run run.NoMemory = status.NoMemory
+
 -- ---- which statuses a command can answer at all
 
 -- the files that a command reads
 abbrev pub Reads : Command → FileRef → Type 0
 Reads (Compile manifest out) f = IsPatchFile f
+Reads (Play wasm input steps) f = IsPlayFile f
 
 -- what a command writes
 abbrev pub Writes : Command → Target → Type 0
 Writes (Compile manifest out) t = t ≡ target.File
+Writes (Play wasm input steps) t = t ≡ target.Out
 
--- A command answers for the files that it reads and for what it writes; one that reads a manifest can refuse
--- the patch. No command reads a state, a script or a module so far, and none runs anything.
+-- the commands that run a module
+abbrev pub RunsModule : Command → Type 0
+RunsModule (Compile manifest out) = ⊥
+RunsModule (Play wasm input steps) = Unit {0}
+
+-- A command answers for the files that it reads, also by refusing them, and for what it writes; one that runs a module
+-- answers for the run and for the listeners. No command reads a state or runs a patch so far.
 abbrev pub MayAnswer : Command → Status → Type 0
 MayAnswer command status.Ok = Unit {0}
 MayAnswer command status.NoMemory = Unit {0}
@@ -55,24 +80,31 @@ MayAnswer command (status.Absent f) = Reads command f
 MayAnswer command (status.ReadFault f) = Reads command f
 MayAnswer command (status.TooBig f length) = Reads command f
 MayAnswer command (status.Refused r) = Reads command file.Manifest
+MayAnswer command (status.InputRefused fault) = Reads command file.Input
+MayAnswer command (status.ModuleRefused refused) = Reads command file.Module
+MayAnswer command (status.StepsSpent at) = RunsModule command
+MayAnswer command (status.Trapped at) = RunsModule command
 MayAnswer command (status.WriteFault t) = Writes command t
+MayAnswer command (status.ListenerFault number) = RunsModule command
 MayAnswer command _ = ⊥
 
 -- ---- what stands with a status
 
--- the folder counted what was absent and what failed, and more was read than a file may have
+-- The folder counted what was absent and what failed, and more was read than a file may have. What stands with a fault of
+-- the output or of a listener is said with what was told.
 abbrev pub HasCause : Seen → Seen → Status → Type 0
 HasCause before after (status.Absent f) = Rose before.absences after.absences
 HasCause before after (status.ReadFault f) = Rose before.faults after.faults
-HasCause before after (status.WriteFault t) = Rose before.faults after.faults
+HasCause before after (status.WriteFault target.File) = Rose before.faults after.faults
 HasCause before after (status.TooBig f length) = least_limit f < length
 HasCause before after _ = Unit {0}
 
--- A fact for the statuses that the words and the files explain. A fault of the folder and want of memory
--- may come instead of any.
+-- A fact for the statuses that the words and the files explain. A fault of the folder, of the output or of a listener and
+-- want of memory may come instead of any.
 abbrev pub OnExplained : Status → Type 0 → Type 0
 OnExplained (status.ReadFault f) P = Unit {0}
 OnExplained (status.WriteFault t) P = Unit {0}
+OnExplained (status.ListenerFault number) P = Unit {0}
 OnExplained status.NoMemory P = Unit {0}
 OnExplained _ P = P
 

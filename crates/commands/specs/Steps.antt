@@ -1,10 +1,13 @@
 -- How the steps of a command end, and how the command ends with them.
 use Rattle.std.specs.Prelude.{ℕ, ◌≡◌, ◌<◌, Option, Some, None, Result, Ok, Err}
 use Rattle.cm_base.specs.declared.failure.Refused.{Refused}
+use Rattle.cm_base.specs.declared.forms.FormFault.{FormFault}
 use Rattle.cm_io.specs.Count.{Rose}
 use Rattle.cm_io.specs.Files.{Files}
 use Rattle.cm_io.specs.Seen.{Seen, IfTold, IfBothTold}
+use Rattle.wasm_tree.specs.declared.failure.ModuleRefused.{ModuleRefused}
 use Rattle.commands.specs.declared.status.FileRef.{FileRef}
+use Rattle.commands.specs.declared.status.FileRef.TheVariants as file
 use Rattle.commands.specs.declared.status.Target.TheVariants as target
 use Rattle.commands.specs.declared.status.Status.{Status}
 use Rattle.commands.specs.declared.status.Status.TheVariants as status
@@ -15,13 +18,15 @@ use Rattle.commands.specs.Files.{KeepsUnwritten, least_limit}
 use Rattle.commands.specs.Statuses.{MayAnswer, HasCause, OnExplained, OnUnwritten}
 use Rattle.commands.specs.Words.{Command, file_written}
 
--- What stands with a status that ends a step before anything is written: which files the step reads, what the
+-- What stands with a status that ends a step before anything is written or told: which files the step reads, what the
 -- folder counted, and what is due where the files are told.
 pub data Stopped (before after : Seen) (reads : FileRef → Type 0) (due : Files → Status → Type 0) : Status → Type 0 where
   FileAbsent : (f : FileRef) → reads f → Rose before.absences after.absences → IfTold before (λ files. due files (status.Absent f)) → Stopped before after reads due (status.Absent f)
   ReadFailed : (f : FileRef) → reads f → Rose before.faults after.faults → Stopped before after reads due (status.ReadFault f)
   FileTooBig : (f : FileRef) → (n : ℕ) → reads f → least_limit f < n → IfTold before (λ files. due files (status.TooBig f n)) → Stopped before after reads due (status.TooBig f n)
-  PatchRefused : (r : Refused) → IfTold before (λ files. due files (status.Refused r)) → Stopped before after reads due (status.Refused r)
+  PatchRefused : (r : Refused) → reads file.Manifest → IfTold before (λ files. due files (status.Refused r)) → Stopped before after reads due (status.Refused r)
+  ModuleIsRefused : (r : ModuleRefused) → reads file.Module → IfTold before (λ files. due files (status.ModuleRefused r)) → Stopped before after reads due (status.ModuleRefused r)
+  ScriptRefused : (fault : FormFault) → reads file.Input → IfTold before (λ files. due files (status.InputRefused fault)) → Stopped before after reads due (status.InputRefused fault)
   OutOfMemory : Stopped before after reads due status.NoMemory
 
 -- what stands with a refusal by a file's bytes, or with want of memory

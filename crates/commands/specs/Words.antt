@@ -1,5 +1,5 @@
 -- The words of the command line: docs/COMMANDS.md, "Commands".
-use Rattle.std.specs.Prelude.{ℕ, List, [], ◌∷◌, Option, Some, None, Bool, not, length, ◌==◌, ◌&&◌, if◌then◌else◌, codes}
+use Rattle.std.specs.Prelude.{ℕ, ◌+◌, ◌*◌, ◌-◌, ◌^◌, List, [], ◌∷◌, Option, Some, None, option_map, option_and_then, Bool, not, length, ◌==◌, ◌&&◌, nat_le, if◌then◌else◌, codes}
 use Rattle.std.specs.Str.{bytes_eq}
 use Rattle.commands.specs.declared.words.Command.{Command as Found}
 use Rattle.commands.specs.declared.words.Command.TheVariants as found
@@ -8,6 +8,8 @@ use Rattle.commands.specs.declared.words.Command.TheVariants as found
 pub data Command : Type 0 where
   -- compile the patch of a manifest, and write its module to a file
   Compile : (manifest out : List ℕ) → Command
+  -- play a module over a script, with so many reductions for each part of its run
+  Play : (wasm input : List ℕ) (steps : ℕ) → Command
 
 -- a file's name isn't empty
 abbrev pub is_file_word : List ℕ → Bool
@@ -20,16 +22,47 @@ compile_of (manifest ∷ []) = None
 compile_of (manifest ∷ out ∷ []) = if is_file_word manifest && is_file_word out then Some (Compile manifest out) else None
 compile_of (manifest ∷ out ∷ other ∷ others) = None
 
+-- the number that one more decimal digit makes of `n`, where it is no more than the limit
+abbrev pub next_number : (most n byte : ℕ) → Option ℕ
+next_number most n byte = if nat_le 48 byte && (nat_le byte 57 && nat_le (n * 10 + (byte - 48)) most) then Some (n * 10 + (byte - 48)) else None
+
+-- the number that decimal digits behind those of `n` make; one that is past the limit stays so with more digits
+abbrev pub number_behind : (most n : ℕ) → List ℕ → Option ℕ
+number_behind most n [] = Some n
+number_behind most n (byte ∷ digits) = option_and_then (λ next. number_behind most next digits) (next_number most n byte)
+
+-- 1 to 20 decimal digits, which may begin with zeros, of a number that is no more than the limit
+abbrev pub number_within : ℕ → List ℕ → Option ℕ
+number_within most word = if nat_le 1 (length word) && nat_le (length word) 20 then number_behind most 0 word else None
+
+-- how many reductions a part of a run may be given
+abbrev pub most_steps : ℕ
+most_steps = 2 ^ 56
+
+-- the command that plays these files, where they are names and the last word is a number of reductions
+abbrev pub command_playing : (wasm input steps : List ℕ) → Option Command
+command_playing wasm input steps = if is_file_word wasm && is_file_word input then option_map (Play wasm input) (number_within most_steps steps) else None
+
+-- `play WASM INPUT STEPS`
+abbrev pub play_of : List (List ℕ) → Option Command
+play_of [] = None
+play_of (wasm ∷ []) = None
+play_of (wasm ∷ input ∷ []) = None
+play_of (wasm ∷ input ∷ steps ∷ []) = command_playing wasm input steps
+play_of (wasm ∷ input ∷ steps ∷ other ∷ others) = None
+
 -- the command that the words are, compared byte for byte
 abbrev pub command_of : List (List ℕ) → Option Command
 command_of [] = None
-command_of (name ∷ words) = if bytes_eq name (codes "compile") then compile_of words else None
+command_of (name ∷ words) = if bytes_eq name (codes "compile") then compile_of words else if bytes_eq name (codes "play") then play_of words else None
 
 -- the same command where its words are borrowed
 abbrev pub meaning : Found → Command
 meaning (found.Compile manifest out) = Compile manifest.now out.now
+meaning (found.Play wasm input steps) = Play wasm.now input.now steps
 
 -- the file that words write, where they write one
 abbrev pub file_written : Option Command → Option (List ℕ)
 file_written None = None
 file_written (Some (Compile manifest out)) = Some out
+file_written (Some (Play wasm input steps)) = None

@@ -1,8 +1,7 @@
 //! The command `compile`: the patch is read, and its module is written last.
 
 ghost use Rattle.std.specs.Prelude.{IfOk};
-ghost use Rattle.cm_tree.specs.Through.{through_patch};
-ghost use Rattle.commands.specs.Compile.{IsModuleOf};
+ghost use Rattle.commands.specs.Compile.{IsFormModule};
 ghost use Rattle.commands.specs.Patch.{AreNames};
 ghost use Rattle.commands.specs.Steps.{Ends, ended};
 ghost use Rattle.commands.specs.Words.{Compile};
@@ -34,7 +33,7 @@ pub fn compile<F: Folder>(
 /// The bytes of the module of the patch with these names.
 fn module_bytes(alloc: Global, patch: &Through) -> Result<Bytes, NoMemory>
     requires { AreNames patch.now.input patch.now.output }
-    ensures { IfOk result (IsModuleOf (through_patch patch.now.input patch.now.output)) }
+    ensures { IfOk result (IsFormModule patch.now.input patch.now.output) }
 {
     let module = build_through(alloc, &patch.input, &patch.output)?;
     write_module(alloc, &module)

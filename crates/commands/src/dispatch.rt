@@ -1,25 +1,67 @@
-ghost use Rattle.std.specs.Prelude.{◌≡◌, ◌↔◌, map, string_bytes, None, IfSome, MatchOption};
+ghost use Rattle.std.specs.Prelude.{◌≡◌, ◌<◌, ◌^◌, ◌↔◌, length, map, string_bytes, None, IfSome, MatchOption};
 ghost use Rattle.cm_io.specs.Seen.{IfTold, IfBothTold};
+ghost use Rattle.item_lines.specs.Hearing.{ear};
+ghost use Rattle.item_lines.specs.Telling.{mouth};
 ghost use Rattle.commands.specs.Compile.{IsDone};
 ghost use Rattle.commands.specs.Due.{IsDue};
 ghost use Rattle.commands.specs.Files.{KeepsUnwritten};
+ghost use Rattle.commands.specs.Playing.{TellsWords};
 ghost use Rattle.commands.specs.Statuses.{MayAnswer, HasCause, OnExplained, OnUnwritten};
 ghost use Rattle.commands.specs.Steps.{EndsWords, ended};
 ghost use Rattle.commands.specs.Words.{command_of, file_written};
 
 use crate::compile::compile;
+use crate::play::play_files;
+use crate::report::heard;
 use crate::status::Status;
 use crate::stop::Stop;
 use crate::words::{Command, read_words};
 use cm_io::{Folder, Listener, Sink};
 use std::alloc::Global;
 
+/// What a command did: whether it has listeners hear items.
+#[derive(Clone, Copy, Debug)]
+enum Work {
+    Quiet,
+    Heard,
+}
+
+/// What a command did that wasn't stopped.
+fn done(end: Result<(), Stop>, work: Work) -> Result<Work, Stop>
+    ensures { ended result ≡ ended end }
+{
+    match end {
+        Ok(()) => Ok(work),
+        Err(stop) => Err(stop),
+    }
+}
+
 /// Carries out the words over the folder.
-fn carry_out<F: Folder>(alloc: Global, words: &[String], folder: &mut F) -> Result<(), Stop>
-    ensures { EndsWords (command_of (map string_bytes words.now)) (F.seen folder.old) (F.seen folder.new) (ended result) }
+fn carry_out<F: Folder, O: Sink, L: Listener>(
+    alloc: Global,
+    words: &[String],
+    folder: &mut F,
+    out: &mut O,
+    listeners: &mut Vec<L>,
+) -> Result<Work, Stop>
+    requires few { length listeners.old.items < 2 ^ 31 }
+    ensures ends { EndsWords (command_of (map string_bytes words.now)) (F.seen folder.old) (F.seen folder.new) (ended result) }
+    ensures told { TellsWords (command_of (map string_bytes words.now)) (F.seen folder.old).holds
+        (record { out = mouth (O.written out.old) (O.faults out.old) (O.refusals out.old); ears = map (λ l. ear (L.heard l) (L.count l) (L.faults l) (L.refusals l)) listeners.old.items })
+        (record { out = mouth (O.written out.new) (O.faults out.new) (O.refusals out.new); ears = map (λ l. ear (L.heard l) (L.count l) (L.faults l) (L.refusals l)) listeners.new.items })
+        (ended result) }
 {
     match read_words(words) {
-        Some(Command::Compile { manifest, out }) => compile(alloc, folder, manifest, out),
+        Some(
+            Command::Compile {
+                manifest,
+                out: file,
+            },
+        ) => done(compile(alloc, folder, manifest, file), Work::Quiet),
+        Some(Command::Play { wasm, input, steps }) => done(
+            play_files(alloc, folder, wasm, input, steps, out, listeners),
+            Work::Heard,
+        ),
         None => Err(Stop {
             status: Status::Usage,
             about: None,
@@ -28,23 +70,27 @@ fn carry_out<F: Folder>(alloc: Global, words: &[String], folder: &mut F) -> Resu
 }
 
 /// Carries out the words of a command line, those after the program's name. The files are those of `folder`,
-/// lines go to `out`, and a line on what went wrong goes to `err`. The one command so far is `compile M OUT`,
-/// which puts no line and tells the listeners nothing: docs/COMMANDS.md.
-pub fn run<F: Folder, O: Sink, E: Sink>(
+/// lines go to `out`, and a line on what went wrong goes to `err`. `compile M OUT` puts no line and tells the listeners
+/// nothing. `play WASM INPUT STEPS` puts the lines of a run and has the listeners hear it; with `Ok` a line on each
+/// listener goes to `err`: docs/COMMANDS.md.
+pub fn run<F: Folder, O: Sink, E: Sink, L: Listener>(
     alloc: Global,
     words: &[String],
     folder: &mut F,
     out: &mut O,
     err: &mut E,
-    listeners: &mut Vec<Box<dyn Listener>>,
+    listeners: &mut Vec<L>,
 ) -> Status
+    requires few { length listeners.old.items < 2 ^ 31 }
+
     // The words alone tell whether they are a command.
     ensures usage { (result ≡ Status.Usage) ↔ (command_of (map string_bytes words.now) ≡ None) }
 
     // A command answers for the files that it reads and for what it writes, and no more.
     ensures may_answer { IfSome (command_of (map string_bytes words.now)) (λ command. MayAnswer command result) }
 
-    // Where the folder tells what it holds, every answer but a fault of the folder and want of memory is due.
+    // Where the folder tells what it holds, every answer is due but a fault of the folder, of the output or of a listener
+    // and want of memory.
     ensures explained { OnExplained result (IfTold (F.seen folder.old) (λ files.
         IsDue files (map string_bytes words.now) result)) }
 
@@ -62,14 +108,19 @@ pub fn run<F: Folder, O: Sink, E: Sink>(
     // With a status other than `Ok` that one is as before too, unless it couldn't be written.
     ensures unwritten { OnUnwritten result ((F.seen folder.new).holds ≡ (F.seen folder.old).holds) }
 
-    // Nothing is put to `out`, and the listeners stay as they are.
-    ensures silent { out.new ≡ out.old }
-    ensures listeners { listeners.new.items ≡ listeners.old.items }
+    // Lines are put, and items heard, for exactly the run of the module, up to an item that isn't put or heard, and the
+    // answer is that of its end; any other answer leaves output and listeners as they are.
+    ensures told { TellsWords (command_of (map string_bytes words.now)) (F.seen folder.old).holds
+        (record { out = mouth (O.written out.old) (O.faults out.old) (O.refusals out.old); ears = map (λ l. ear (L.heard l) (L.count l) (L.faults l) (L.refusals l)) listeners.old.items })
+        (record { out = mouth (O.written out.new) (O.faults out.new) (O.refusals out.new); ears = map (λ l. ear (L.heard l) (L.count l) (L.faults l) (L.refusals l)) listeners.new.items })
+        result }
 {
-    let _out = out;
-    let _listeners = listeners;
-    match carry_out(alloc, words, folder) {
-        Ok(()) => Status::Ok,
+    match carry_out(alloc, words, folder, out, listeners) {
+        Ok(Work::Quiet) => Status::Ok,
+        Ok(Work::Heard) => {
+            heard(alloc, err, listeners);
+            Status::Ok
+        }
         Err(stop) => stop.report(alloc, err),
     }
 }

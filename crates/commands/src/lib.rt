@@ -1,13 +1,15 @@
 //! The commands of the program: `run` carries out the words of a command line over a folder, two sinks and
 //! listeners. Its contract is the headline: with `Ok` after `compile` the file that was asked for holds a valid
-//! module that keeps the patch, and every other answer has its cause. The program itself, `render_program`, hands
-//! it the real files and streams. `told` puts a status's line on the error stream.
+//! module that keeps the patch, after `play` the lines of a valid module's run were put, and every other answer has its
+//! cause. The program itself, `render_program`, hands it the real files and streams. `told` puts a status's line on the
+//! error stream.
 #![tactic(auto)]
 
 mod compile;
 mod dispatch;
 mod files;
 mod patch;
+mod play;
 mod report;
 mod status;
 mod stop;
@@ -16,5 +18,6 @@ mod tests;
 mod words;
 
 pub use dispatch::run;
+pub use module_player::At;
 pub use report::told;
-pub use status::{At, FileRef, Status, Target};
+pub use status::{FileRef, Status, Target};

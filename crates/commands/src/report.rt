@@ -7,9 +7,11 @@ ghost use Rattle.std.specs.Prelude.{◌≡◌};
 mod tests;
 
 use crate::status::{Status, Target};
-use cm_base::Refused;
-use cm_io::{Sink, push_name};
+use cm_base::{FormFault, Refused};
+use cm_io::{Listener, Sink, push_name};
+use module_player::At;
 use std::alloc::{AllocError, Global};
+use wasm_tree::ModuleRefused;
 
 /// The line of a status that speaks of a file. `name` is that file's.
 fn line_of(alloc: Global, status: &Status, name: &str) -> Result<Option<Vec<u8>>, AllocError> {
@@ -19,9 +21,42 @@ fn line_of(alloc: Global, status: &Status, name: &str) -> Result<Option<Vec<u8>>
         Status::TooBig(_, _) => file_line(alloc, "too big ", name)?,
         Status::Refused(refused) => refused_line(alloc, refused, name)?,
         Status::WriteFault(Target::File) => file_line(alloc, "write fault ", name)?,
-        _ => return Ok(None),
+        other => return run_line(alloc, other),
     };
     Ok(Some(line))
+}
+
+/// The line of a status that speaks of a script, of a module or of its run.
+fn run_line(alloc: Global, status: &Status) -> Result<Option<Vec<u8>>, AllocError> {
+    let line = match status {
+        Status::InputRefused(fault) => fault_line(alloc, fault)?,
+        Status::ModuleRefused(refused) => module_line(alloc, refused)?,
+        Status::StepsSpent(at) => part_line(alloc, "steps spent", *at)?,
+        Status::Trapped(at) => part_line(alloc, "trapped", *at)?,
+        Status::ListenerFault(number) => format!(in alloc; "listener fault {number}\n")?,
+        _ => return Ok(None),
+    };
+    Ok(Some(Vec::from_slice(alloc, line.as_bytes())?))
+}
+
+/// `input refused RULE PART INDEX`.
+fn fault_line(alloc: Global, fault: &FormFault) -> Result<String, AllocError> {
+    let (rule, part, index) = (fault.rule, fault.part, fault.index);
+    format!(in alloc; "input refused {rule:?} {part:?} {index}\n")
+}
+
+/// `module refused RULE OFFSET`.
+fn module_line(alloc: Global, refused: &ModuleRefused) -> Result<String, AllocError> {
+    let (rule, offset) = (refused.rule, refused.offset);
+    format!(in alloc; "module refused {rule:?} {offset}\n")
+}
+
+/// The words and the part of a run.
+fn part_line(alloc: Global, words: &str, at: At) -> Result<String, AllocError> {
+    match at {
+        At::Init => format!(in alloc; "{words} init\n"),
+        At::Frame(frame) => format!(in alloc; "{words} frame {frame}\n"),
+    }
 }
 
 /// The words and the name of a file.
@@ -72,4 +107,14 @@ pub fn told<E: Sink>(alloc: Global, err: &mut E, status: Status, name: &str) -> 
         }
     }
     status
+}
+
+/// Puts a line for each listener: how many items it heard. A line that can't be made or put changes nothing.
+pub fn heard<E: Sink, L: Listener>(alloc: Global, err: &mut E, listeners: &[L]) {
+    for (number, listener) in listeners.iter().enumerate() {
+        let count = listener.count();
+        if let Ok(line) = format!(in alloc; "listener {number} heard {count}\n") {
+            let _ = err.put(line.as_bytes());
+        }
+    }
 }

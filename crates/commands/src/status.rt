@@ -1,7 +1,9 @@
 ghost use Rattle.std.specs.Prelude.{◌≡◌};
-ghost use Rattle.commands.specs.Statuses.{number_of};
+ghost use Rattle.commands.specs.Statuses.{number_of, status_of_run};
 
 use cm_base::{Fail, FormFault, NoMemory, Refused};
+use module_player::At;
+use run_lines::RunEnd;
 use wasm_tree::ModuleRefused;
 
 /// A file that a command reads. Sources count from 1, in the order of the manifest.
@@ -12,13 +14,6 @@ pub enum FileRef {
     State,
     Input,
     Module,
-}
-
-/// The part of a run in which a bound is spent or a module traps.
-#[derive(Clone, Copy, Debug, PartialEq, Eq)]
-pub enum At {
-    Init,
-    Frame(u32),
 }
 
 /// What can't be written: the output, or the command's file.
@@ -50,6 +45,20 @@ pub enum Status {
 }
 
 impl Status {
+    /// The status of a run that ended so.
+    pub(crate) fn of_run(end: RunEnd) -> Status
+        ensures { result ≡ status_of_run end }
+    {
+        match end {
+            RunEnd::Ended => Status::Ok,
+            RunEnd::StepsSpent(at) => Status::StepsSpent(at),
+            RunEnd::Trapped(at) => Status::Trapped(at),
+            RunEnd::PutFailed => Status::WriteFault(Target::Out),
+            RunEnd::ListenerFailed(number) => Status::ListenerFault(number),
+            RunEnd::NoMemory => Status::NoMemory,
+        }
+    }
+
     /// The number that the program exits with.
     pub fn number(&self) -> u8
         ensures { result ≡ number_of self.now }

@@ -1,6 +1,6 @@
 use crate::run;
 use cm_base::{Bytes, Items, Name};
-use cm_io::{FileList, MemoryFolder, MemorySink, has_distinct_names};
+use cm_io::{FileList, MemoryFolder, MemorySink, Meter, has_distinct_names};
 use std::alloc::{AllocError, Global};
 use std::process::Abort;
 
@@ -92,7 +92,7 @@ fn expect(
     let words = words(alloc, given)?;
     let mut out = sink(alloc);
     let mut err = sink(alloc);
-    let mut listeners = Vec::new(alloc);
+    let mut listeners: Vec<Meter> = Vec::new(alloc);
     let answer = run(alloc, &words, folder, &mut out, &mut err, &mut listeners);
     assert!(rt; answer.number() == status, "{line:?}");
     assert!(rt; err.written() == line, "{line:?}");

@@ -1,4 +1,4 @@
 mod Leaves
 mod Returned
-mod Runs
+pub mod Runs
 mod Steady

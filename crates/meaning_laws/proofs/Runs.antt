@@ -165,7 +165,7 @@ part_grows : (act : Act Done) → Lasting act → (finish : World → World) →
     Prefix w.trace (told_left (left_of finish (act w n)))
 part_grows act f finish g w n = prefix_on w.trace (told (act w n)) (told_left (left_of finish (act w n))) (f.grows w n) (left_grows finish g (act w n))
 
-perform_grows : (l : Linked) (depth n : ℕ) (part : Part) (w : World) → Prefix w.trace (told_left (perform l depth n part w))
+pub perform_grows : (l : Linked) (depth n : ℕ) (part : Part) (w : World) → Prefix w.trace (told_left (perform l depth n part w))
 perform_grows l depth n Init w =
     part_grows (in_order (init_of l depth) l.order) (lasting_inits l depth) (λ v. v) (λ v. prefix_same v.trace) w n
 perform_grows l depth n (Send frame k value inputs) w =

@@ -4,7 +4,7 @@ use Rattle.std.specs.Prelude.{codes}
 use Rattle.std.specs.Str.{IsUtf8}
 use Rattle.cm_base.specs.declared.host.Flow.TheVariants.{Input, Output}
 use Rattle.cm_base.specs.declared.host.Scalar.TheVariants.{Int32}
-use Rattle.cm_tree.specs.Through.{host_stream}
+use Rattle.through_meaning.specs.Parts.{host_stream}
 use Rattle.wasm_tree.specs.Section.{Runs, Spelled_slot, Spelled_section}
 use Rattle.wasm_tree.specs.Spelled.{Joined, Is, Begins, Each, Index, Signed, Vector, Text, Utf8Text, Type_of_function, Imported, Memory, Exported, Body, LocalRuns, Expression, Custom_contents, CustomsAre, Raw, RawSection, InOrder, header, Spelled}
 use Rattle.wasm_tree.specs.Valid.{emit_type, no_type}

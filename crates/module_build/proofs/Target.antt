@@ -9,8 +9,10 @@ use Rattle.std.proofs.Math.Nat.{mod-eq_of_lt}
 use Rattle.cm_base.specs.declared.play.Item.{Item}
 use Rattle.cm_base.specs.declared.play.Item.TheVariants as item
 use Rattle.cm_number.proofs.Public.{to_signed_fits, cast_unsigned-lt}
-use Rattle.cm_tree.specs.Resume.{Todo}
-use Rattle.cm_tree.specs.Run.{World}
+use Rattle.cm_base.specs.Parts.{Inputs}
+use Rattle.cm_tree.specs.declared.file.File.{File}
+use Rattle.cm_meaning.specs.Stores.{Store}
+use Rattle.cm_meaning.specs.World.{World, Sources, Todo}
 use Rattle.wasm_tree.specs.declared.instr.Instr.TheVariants as instr
 use Rattle.wasm_tree.specs.declared.op.LoadOp.TheVariants as load
 use Rattle.wasm_tree.specs.declared.op.StoreOp.TheVariants as store
@@ -22,20 +24,24 @@ use Rattle.wasm_tree.specs.Slots.{outputs_at, write_inputs}
 use Rattle.wasm_steps.proofs.Compose.{one, andthen}
 use Rattle.wasm_runs.specs.Calling.{CallEnds, CallReturns}
 use Rattle.module_build.specs.Through.{through_module, through_slots, word_at}
-use Rattle.module_build.proofs.Source.{frame_inputs, IsReady, world_with}
+use Rattle.through_meaning.specs.Parts.{Parts}
+use Rattle.through_meaning.proofs.Steps.{frame_inputs, world_with}
+use Rattle.module_build.proofs.Source.{IsReady}
 
 -- the current values of the two endpoints, which are never set
 abbrev pub no_current : List (List ℤ)
 no_current = (pos 0 ∷ []) ∷ (pos 0 ∷ []) ∷ []
 
 -- between two calls: the leaf is at its loop, and the memory has both slots
-pub record Kept (input output : List ℕ) (world : World) (current : List (List ℤ)) (globals memory : List ℕ) : Type 0 where
+pub record Kept (files : List File) (parts : Parts) (input output : List ℕ) (world : World) (current : List (List ℤ)) (globals memory : List ℕ) : Type 0 where
   pub rest : List Todo
-  pub ready : IsReady input output rest
+  pub store : Store
+  pub ready : IsReady files parts input output rest store
   pub inputs : List (List ℤ)
-  pub first : List (List ℤ)
-  pub second : List (List ℤ)
-  pub is : world ≡ world_with rest inputs world.current first second world.trace
+  pub streams : Inputs
+  pub history : List Sources
+  pub frame : ℕ
+  pub is : world ≡ world_with rest store inputs world.current streams history frame world.trace
   pub room : 8 ≤ length memory
   pub no_globals : globals ≡ []
   pub still : current ≡ no_current
@@ -84,13 +90,13 @@ outputs_are input output v rest fits =
     rw read (rw same (rw read (rw back (rw (to_signed_fits w32 v fits) refl))))
 
 -- a call of `frame` returns after three reductions
-pub frame_returns : (described input output : List ℕ) (v : ℤ) (frame most : ℕ) (globals : List ℕ) (b0 b1 b2 b3 b4 b5 b6 b7 : ℕ) (rest : List ℕ) (current : List (List ℤ)) (trace : List Item) (world : World) → FitsSigned w32 v → 2 < most →
-    world.trace ≡ trace ++ item.Frame frame (v ∷ []) ∷ [] → ((memory : List ℕ) → 8 ≤ length memory → Kept input output world current globals memory) →
+pub frame_returns : (files : List File) (parts : Parts) (described input output : List ℕ) (v : ℤ) (frame most : ℕ) (globals : List ℕ) (b0 b1 b2 b3 b4 b5 b6 b7 : ℕ) (rest : List ℕ) (current : List (List ℤ)) (trace : List Item) (world : World) → FitsSigned w32 v → 2 < most →
+    world.trace ≡ trace ++ item.Frame frame (v ∷ []) ∷ [] → ((memory : List ℕ) → 8 ≤ length memory → Kept files parts input output world current globals memory) →
     CallEnds (funcs_of (through_module described)) (through_slots input output) frame most
     (call_of (through_module described) (codes "frame") [] globals (write_inputs (through_slots input output) (frame_inputs v) current (b0 ∷ b1 ∷ b2 ∷ b3 ∷ b4 ∷ b5 ∷ b6 ∷ b7 ∷ rest)))
-    trace (CallReturns (Kept input output) (λ w. w.trace) current (frame_told (through_slots input output) 0 frame) world)
+    trace (CallReturns (Kept files parts input output) (λ w. w.trace) current (frame_told (through_slots input output) 0 frame) world)
 unfolding pieces plain act
-frame_returns described input output v frame most globals b0 b1 b2 b3 b4 b5 b6 b7 rest current trace world fits few told kept =
+frame_returns files parts described input output v frame most globals b0 b1 b2 b3 b4 b5 b6 b7 rest current trace world fits few told kept =
     let u = cast_unsigned w32 v in
     let first = long 4 (u % 256) (u / 256 % 256) (u / 65536 % 256) (u / 16777216 % 256) b4 b5 b6 b7 rest (omega arith) in
     let second = long 8 (u % 256) (u / 256 % 256) (u / 65536 % 256) (u / 16777216 % 256) b4 b5 b6 b7 rest (omega arith) in

@@ -1,8 +1,7 @@
 -- The module that passes its input through keeps its patch, and can be written.
 use Rattle.std.proofs.Common.{◌≡◌, ◌≢◌, ℕ, ◌+◌, ◌<◌, ◌^◌, List, [], ◌∷◌, length, refl, sym, subst, arith, lit≤, lit<}
 use Rattle.std.specs.Prelude.{Result, Ok, Err, IfOk, Some}
-use Rattle.cm_tree.specs.Sizes.{memory_pages}
-use Rattle.cm_tree.specs.Through.{through_patch}
+use Rattle.cm_meaning.specs.Linked.{Linked}
 use Rattle.wasm_tree.specs.declared.module.Custom.{Custom}
 use Rattle.wasm_tree.specs.declared.module.GlobalVar.{GlobalVar}
 use Rattle.wasm_tree.specs.Section.{Spelled_section}
@@ -10,22 +9,24 @@ use Rattle.wasm_tree.specs.Spelled.{IsConstant}
 use Rattle.wasm_tree.specs.Valid.{IsBodyWithinLimits}
 use Rattle.wasm_writer.specs.Spelling.{IsWritable, unsigned_bytes, unsigned_within, signed_bytes, signed_within, custom_contents}
 use Rattle.std.proofs.lemmas.List.Elements.{All-from_recursion}
-use Rattle.module_build.specs.Build.{KeepsPatch, HasPages}
-use Rattle.module_build.proofs.Source.{is_name-refl, is_name-distinct}
+use Rattle.through_meaning.proofs.Formed.{Worked, worked}
+use Rattle.through_meaning.proofs.Sized.{bytes_are}
+use Rattle.module_build.specs.Build.{HasPages, KeepsForm, HasFormPages}
 use Rattle.module_build.specs.Through.{through_module, through_section, cmajor_custom}
-use Rattle.module_build.proofs.ThroughKeeps.{through_keeps, through_stopped}
+use Rattle.module_build.proofs.ThroughKeeps.{through_keeps}
 use Rattle.module_build.proofs.ThroughValid.{through_valid}
 
-pub keeps_patch : (described input output : List ℕ) → input ≢ output → Spelled_section (through_section input output) described → KeepsPatch (through_patch input output) (through_module described)
-keeps_patch described input output ne spelled =
+pub keeps_form : (described input output : List ℕ) → input ≢ output → Spelled_section (through_section input output) described → KeepsForm input output (through_module described)
+keeps_form described input output ne spelled patch is =
     let valid = through_valid described input output ne spelled in
+    let keeping = through_keeps described input output patch (worked is) valid.cmajor.described.lawful in
     record {
       section = through_section input output;
       valid = valid;
-      endpoints = refl;
-      delay = refl;
-      runs = through_keeps described input output ne valid.cmajor.described.lawful;
-      stopped = through_stopped described input output ne valid.cmajor.described.lawful;
+      endpoints = keeping.endpoints;
+      delay = keeping.delay;
+      runs = keeping.runs;
+      stopped = keeping.stopped;
     }
 
 custom_short : (described : List ℕ) → length described < 2 ^ 31 + 2 ^ 30 → length (custom_contents (cmajor_custom described)) < 2 ^ 32
@@ -48,9 +49,10 @@ pub if_ok_along : (X E : Type 0) (P : X → Type 0) (r : Result X E) (y : X) →
 if_ok_along X E P (Ok x) y e p = subst P (sym e) p
 if_ok_along X E P (Err x) y e p = tt
 
-pub one_page_is : (input output : List ℕ) → input ≢ output → memory_pages (through_patch input output) ≡ 1
-one_page_is input output ne = rw (is_name-refl input, is_name-distinct input output ne, is_name-refl output) refl
+pages_of : (described input output : List ℕ) (patch : Linked) → Worked input output patch → HasPages patch (through_module described)
+pages_of described input output patch w =
+    subst (λ (l : Linked). HasPages l (through_module described)) (sym w.is)
+    (subst (λ (n : ℕ). (through_module described).memory ≡ record { min = n; max = Some n } ∷ []) (sym (bytes_are w.files w.parts input output w.known w.names w.places)) refl)
 
-pub pages : (described input output : List ℕ) → input ≢ output → HasPages (through_patch input output) (through_module described)
-pages described input output ne =
-    subst (λ (n : ℕ). (through_module described).memory ≡ record { min = n; max = Some n } ∷ []) (sym (one_page_is input output ne)) refl
+pub pages : (described input output : List ℕ) → HasFormPages input output (through_module described)
+pages described input output patch is = pages_of described input output patch (worked is)

@@ -1,7 +1,7 @@
 -- The module of a patch that passes its input through: docs/MODULE.md, "An example".
 use Rattle.std.specs.Prelude.{ℕ, List, [], ◌∷◌, Some, codes, pos}
 use Rattle.cm_base.specs.declared.host.Flow.TheVariants.{Input, Output}
-use Rattle.cm_tree.specs.Through.{host_stream}
+use Rattle.through_meaning.specs.Parts.{host_stream}
 use Rattle.wasm_tree.specs.declared.module.Limits.{Limits}
 use Rattle.wasm_tree.specs.declared.module.Import.{Import}
 use Rattle.wasm_tree.specs.declared.module.ImportKind.TheVariants as imported

@@ -1,7 +1,7 @@
 ghost use Rattle.std.specs.Prelude.{◌≡◌, ◌≢◌, ◌<◌, ◌^◌, ◌+◌, length, [], IfOk};
-ghost use Rattle.cm_tree.specs.Through.{through_patch, host_stream};
-ghost use Rattle.module_build.specs.Build.{KeepsPatch, HasPages};
+ghost use Rattle.module_build.specs.Build.{KeepsForm, HasFormPages};
 ghost use Rattle.wasm_writer.specs.Spelling.{IsWritable};
+ghost use Rattle.through_meaning.specs.Parts.{host_stream};
 ghost use Rattle.module_build.specs.Through.{through_module, through_section, frame_code, init_code};
 ghost use Rattle.wasm_tree.specs.Section.{Spelled_section};
 
@@ -111,8 +111,8 @@ pub fn build_through(alloc: Global, input: &Name, output: &Name) -> Result<Modul
     requires distinct { input.now ≢ output.now }
     requires input_short { length input.now < 2 ^ 30 }
     requires output_short { length output.now < 2 ^ 30 }
-    ensures keeps { IfOk result (KeepsPatch (through_patch input.now output.now)) }
-    ensures pages { IfOk result (HasPages (through_patch input.now output.now)) }
+    ensures keeps { IfOk result (KeepsForm input.now output.now) }
+    ensures pages { IfOk result (HasFormPages input.now output.now) }
     ensures writable { IfOk result IsWritable }
 {
     let described = describe(alloc, input, output)?;

@@ -1,10 +1,11 @@
-//! The program: `main` hands the real files and streams to `run` of `commands`, whose contract is the headline, and
-//! exits with the number of its status.
+//! The program: `main` hands the real files and streams, and one listener that counts, to `run` of `commands`, whose
+//! contract is the headline, and exits with the number of its status.
 #![tactic(auto)]
 
 ghost use Rattle.std.specs.Prelude.{◌≡◌, ◌↔◌, ◌⊎◌};
 ghost use Rattle.std.specs.IoError.{error_kind};
 
+use cm_io::Meter;
 use commands::{Status, run, told};
 use real_files::{Disk, Stream};
 use std::alloc::AllocError;
@@ -41,14 +42,17 @@ fn main(rt: HostRuntime) -> ExitCode {
             let mut folder = Disk::new(&rt);
             let mut out = Stream::new(rt.stdout());
             let mut listeners = Vec::new(rt.alloc());
-            run(
-                rt.alloc(),
-                &words,
-                &mut folder,
-                &mut out,
-                &mut err,
-                &mut listeners,
-            )
+            match listeners.push(Meter::new()) {
+                Ok(()) => run(
+                    rt.alloc(),
+                    &words,
+                    &mut folder,
+                    &mut out,
+                    &mut err,
+                    &mut listeners,
+                ),
+                Err(_) => told(rt.alloc(), &mut err, Status::NoMemory, ""),
+            }
         }
         Err(error) => told(rt.alloc(), &mut err, status_without_words(&error), ""),
     };

@@ -1,8 +1,10 @@
 use crate::report::told;
 use crate::status::{FileRef, Status, Target};
-use cm_base::{Cause, Items, Place, Refused};
+use cm_base::{Cause, FormFault, FormPart, FormRule, Items, Place, Refused};
 use cm_io::MemorySink;
+use module_player::At;
 use std::test::*;
+use wasm_tree::{ModuleRefused, ModuleRule};
 
 #[test]
 fn each_status_has_one_line(rt: HostRuntime) {
@@ -16,7 +18,16 @@ fn each_status_has_one_line(rt: HostRuntime) {
         },
         cycle: Items::new(rt.alloc()),
     };
-    let rows: [(Status, &str); 8] = [
+    let fault = FormFault {
+        rule: FormRule::EventLimit,
+        part: FormPart::Events,
+        index: 1024,
+    };
+    let broken = ModuleRefused {
+        offset: 33_554_432,
+        rule: ModuleRule::CallCycle,
+    };
+    let rows: [(Status, &str); 14] = [
         (Status::Ok, ""),
         (Status::Usage, "usage\n"),
         (
@@ -39,6 +50,21 @@ fn each_status_has_one_line(rt: HostRuntime) {
             Status::WriteFault(Target::File),
             "write fault a\\x0ab\\x09\\x1f\\x7f ~\u{e9}\n",
         ),
+        (
+            Status::InputRefused(fault),
+            "input refused EventLimit Events 1024\n",
+        ),
+        (
+            Status::ModuleRefused(broken),
+            "module refused CallCycle 33554432\n",
+        ),
+        (Status::StepsSpent(At::Init), "steps spent init\n"),
+        (
+            Status::Trapped(At::Frame(1_048_575)),
+            "trapped frame 1048575\n",
+        ),
+        (Status::WriteFault(Target::Out), "write fault out\n"),
+        (Status::ListenerFault(7), "listener fault 7\n"),
         (Status::NoMemory, "no memory\n"),
     ];
     for (status, line) in rows {

@@ -1,4 +1,5 @@
-ghost use Rattle.std.specs.Prelude.{◌≡◌, ℕ, List, length, map, None, Some, MatchOption};
+ghost use Rattle.std.specs.Prelude.{◌≡◌, ℕ, List, length, take, map, None, Some, MatchOption};
+ghost use Rattle.std.specs.Str.{bytes_eq};
 ghost use Rattle.cm_lexer.specs.Scan as spec;
 ghost use Rattle.cm_lexer.specs.Found.{Gives};
 
@@ -59,13 +60,26 @@ const SIGNS: [(&[u8], Sign); 49] = [
     (b">", Sign::Greater),
 ];
 
+/// Whether a sign stands at the front of a text. The first byte rules out most, at the cost of one comparison.
+fn begins(sign: &[u8], text: &[u8]) -> bool
+    ensures { result ≡ bytes_eq sign.now (take (length sign.now) text.now) }
+{
+    let [first, ..] = sign else {
+        return true;
+    };
+    let [byte, ..] = text else {
+        return false;
+    };
+    first == byte && text.starts_with(sign)
+}
+
 /// The first entry of the table whose text stands at the front: how long it is, and its sign.
 fn begun_by(mut table: &[(&[u8], Sign)], text: &[u8]) -> Option<(usize, Sign)>
     ensures { MatchOption result (spec.begun_by (map (λ e. (e.0.now, e.1)) table.entry.now) text.now ≡ None)
         (λ found. (sign : List ℕ) × (spec.begun_by (map (λ e. (e.0.now, e.1)) table.entry.now) text.now ≡ Some (sign, found.1)) × (found.0 ≡ length sign)) }
 {
     while let [first, others @ ..] = table {
-        if text.starts_with(first.0) {
+        if begins(first.0, text) {
             return Some((first.0.len(), first.1));
         }
         table = others;

@@ -1,3 +1,3 @@
-mod StepLemmas
-mod LocalLemmas
-mod ScopeLemmas
+pub mod StepLemmas
+pub mod LocalLemmas
+pub mod ScopeLemmas

@@ -1,5 +1,6 @@
 -- The steps of locals, each of which is visible to those after it.
-use Rattle.std.specs.Prelude.{◌≡◌, refl, ℕ, suc, ◌+◌, ◌<◌, List, [], ◌∷◌, ◌++◌, length, map, take}
+use Rattle.std.specs.Prelude.{◌≡◌, refl, ℕ, suc, ◌+◌, ◌<◌, Bool, true, false, List, [], ◌∷◌, ◌++◌, length, map, take, Option, Some, None, bytes_eq, if◌then◌else◌}
+use Rattle.std.specs.Option.{option_or}
 use Rattle.std.proofs.Common.{ap, sym, ◌∙◌, subst, arith, get_or}
 use Rattle.std.proofs.Math.Seq.{take-length}
 use Rattle.std.proofs.lemmas.List.{append-nil, append_assoc, map-append}
@@ -8,17 +9,36 @@ use Rattle.cm_tree.specs.declared.simple.Init.{Init}
 use Rattle.cm_tree.specs.declared.simple.Var.{Var}
 use Rattle.cm_tree.specs.declared.type_expr.TypeExpr.{TypeExpr}
 use Rattle.cm_meaning.specs.Declared.{Home, Named, Declared}
-use Rattle.cm_meaning.specs.Scopes.{Around, declare, declare_all, declared, typed_local, with_local}
+use Rattle.cm_meaning.specs.Scopes.{Around, declare, declare_all, declared, find_in, outward, space_scopes, typed_local, with_local}
 use Rattle.cm_meaning.specs.Sites.{Site, expr_sites, optional_sites}
 use Rattle.cm_meaning.specs.BodySites.{init_sites, var_sites}
-use Rattle.scope_walk.specs.Steps.{Step, Introduces, after_steps, found_by, found_at, IsLike, Walks, Reads}
+use Rattle.scope_walk.specs.Steps.{Step, Stand, Introduces, outer_of, visible, after_steps, found_by, found_at, IsLike, Walks, Reads}
 use Rattle.scope_walk.proofs.StepLemmas.{at-append, walks-at, walks-none, walks-then, take-more}
 
 -- where the same is visible after a part
 pub walks-after : (a b : List Step) (s : Around → List Site) (f g : Around → Around) → ((r : Around) → g r ≡ f r) → Walks a b s f → Walks a b s g
-walks-after a b s f g same h = record { more = h.more; grown = h.grown; found = h.found; leaves = λ r q like. subst (λ z. IsLike z (after_steps q h.more)) (sym (same r)) (h.leaves r q like) }
+walks-after a b s f g same h = record { more = h.more; grown = h.grown; found = h.found; leaves = λ r q like. subst (λ z. IsLike z (after_steps q h.more)) (sym (same r)) (h.leaves r q like); outer = h.outer }
 
--- a name is declared
+-- ---- a name is declared
+
+first-local : (x : Declared) (is : Bool) (here rest : Option Declared) → option_or (if is then Some x else here) rest ≡ option_or (if is then Some x else None) (option_or here rest)
+first-local x true here rest = refl
+first-local x false here rest = refl
+
+-- what is declared is found first
+pub outward-local : (n : List ℕ) (x : Declared) (scopes rest : List (List Declared)) → outward n (with_local x scopes ++ rest) ≡ option_or (find_in n (x ∷ [])) (outward n (scopes ++ rest))
+unfolding outward find_in
+outward-local n x [] rest = refl
+outward-local n x (scope ∷ outer) rest = first-local x (bytes_eq x.word.text n) (find_in n scope) (outward n (outer ++ rest))
+
+outward-declared : (n : List ℕ) (x : Declared) (scopes : List (List Declared)) → outward n (with_local x scopes) ≡ option_or (find_in n (x ∷ [])) (outward n scopes)
+outward-declared n x scopes =
+    ap (outward n) (sym (append-nil (with_local x scopes))) ∙ outward-local n x scopes [] ∙ ap (λ z. option_or (find_in n (x ∷ [])) (outward n z)) (append-nil scopes)
+
+pub outer-local : (x : Declared) (scopes : List (List Declared)) → outer_of (with_local x scopes) ≡ outer_of scopes
+outer-local x [] = refl
+outer-local x (scope ∷ outer) = refl
+
 pub walks-declare : (a b : List Step) (w : Word) (n : Named) → b ≡ a ++ Introduces w n ∷ [] → Walks a b (λ r. []) (λ r. declare r (declared r.home w n))
 unfolding found_by after_steps found_at
 walks-declare a b w n grown = record {
@@ -27,9 +47,11 @@ walks-declare a b w n grown = record {
   found = λ r q like. refl;
   leaves = λ r q like. record {
     all = like.all;
-    scopes = ap (λ z. with_local (declared z w n) q.scopes) like.home ∙ ap (λ z. with_local (declared r.home w n) z) like.scopes;
+    finds = λ m. outward-local m (declared q.home w n) q.scopes (space_scopes q.all q.home.space) ∙ ap (λ z. option_or (find_in m (declared z w n ∷ [])) (outward m (visible q))) like.home
+        ∙ ap (λ z. option_or (find_in m (declared r.home w n ∷ [])) z) (like.finds m) ∙ sym (outward-declared m (declared r.home w n) r.scopes);
     home = like.home;
   };
+  outer = λ q. outer-local (declared q.home w n) q.scopes;
 }
 
 -- ---- declarations one after the other

@@ -1,5 +1,6 @@
 -- The steps of parts in scopes of their own.
 use Rattle.std.specs.Prelude.{◌≡◌, refl, ℕ, suc, ◌+◌, ◌<◌, List, [], ◌∷◌, ◌++◌, length, map, take, Option, Some, None, Result, Ok, Err, OnOk}
+use Rattle.std.specs.Option.{option_or}
 use Rattle.std.proofs.Common.{ap, sym, ◌∙◌, subst, arith, get_or}
 use Rattle.std.proofs.Math.Seq.{take-length}
 use Rattle.std.proofs.lemmas.List.{append-nil, append_assoc}
@@ -16,27 +17,22 @@ use Rattle.cm_tree.specs.declared.stmt.Start.TheVariants as st
 use Rattle.cm_tree.specs.declared.stmt.Stmt.{Stmt}
 use Rattle.cm_tree.specs.declared.stmt.Stmt.TheVariants as x
 use Rattle.cm_meaning.specs.Declared.{Counter, Declared}
-use Rattle.cm_meaning.specs.Scopes.{Around, declare, declare_all, declared, find, looped, scoped, typed_local, with_local}
+use Rattle.cm_meaning.specs.Scopes.{Around, declare, declare_all, declared, find, find_in, looped, outward, scoped, space_scopes, typed_local}
 use Rattle.cm_meaning.specs.Sites.{Site, site, Declares, Writes, path_of_word, expr_sites, optional_sites, type_sites}
 use Rattle.cm_meaning.specs.SiteEquations.{stmt_sites-Empty, stmt_sites-Break, stmt_sites-Continue, stmt_sites-Advance, stmt_sites-Local, stmt_sites-ForType}
-use Rattle.cm_meaning.specs.BodySites.{after, after_local, after_start, counter, local_sites, next_sites, start_sites, stmt_sites, stmts_sites, var_sites}
-use Rattle.scope_walk.specs.Steps.{Step, Enters, Leaves, Introduces, outer_of, step_after, after_steps, found_by, found_at, after_all, IsLike, Walks, Reads}
+use Rattle.cm_meaning.specs.BodySites.{after, after_local, after_start, counter, local_sites, next_sites, simple_sites, start_sites, stmt_sites, stmts_sites, var_sites}
+use Rattle.scope_walk.specs.Steps.{Step, Stand, Enters, Leaves, Introduces, outer_of, step_after, after_steps, found_by, found_at, after_all, IsLike, Walks, Reads}
 use Rattle.scope_walk.specs.Bodies.{for_sites}
 use Rattle.scope_walk.proofs.StepLemmas.{after-append, found-append, at-append, ok-map, walks-at, walks-none, walks-then, take-more}
 use Rattle.scope_walk.proofs.LocalLemmas.{walks-after, walks-declare}
 
--- all but the innermost scope stays
+-- where declarations stand, and those of namespaces, stay
 pub record Keeps (g : Around → Around) : Type 0 where
   pub all : (r : Around) → (g r).all ≡ r.all
-  pub outer : (r : Around) → outer_of (g r).scopes ≡ outer_of r.scopes
   pub home : (r : Around) → (g r).home ≡ r.home
 
 pub keeps-same : Keeps (λ r. r)
-keeps-same = record { all = λ r. refl; outer = λ r. refl; home = λ r. refl }
-
-outer-local : (x : Declared) (scopes : List (List Declared)) → outer_of (with_local x scopes) ≡ outer_of scopes
-outer-local x [] = refl
-outer-local x (scope ∷ outer) = refl
+keeps-same = record { all = λ r. refl; home = λ r. refl }
 
 all-declared : (r : Around) (xs : List Declared) → (declare_all r xs).all ≡ r.all
 unfolding declare_all
@@ -48,13 +44,8 @@ unfolding declare_all
 home-declared r [] = refl
 home-declared r (x ∷ xs) = home-declared (declare r x) xs
 
-outer-declared : (r : Around) (xs : List Declared) → outer_of (declare_all r xs).scopes ≡ outer_of r.scopes
-unfolding declare_all
-outer-declared r [] = refl
-outer-declared r (x ∷ xs) = outer-declared (declare r x) xs ∙ outer-local x r.scopes
-
 pub keeps-local : (a : Local) → Keeps (λ r. after_local r a)
-keeps-local a = record { all = λ r. all-declared r _; outer = λ r. outer-declared r _; home = λ r. home-declared r _ }
+keeps-local a = record { all = λ r. all-declared r _; home = λ r. home-declared r _ }
 
 pub keeps-start : (s : Option Start) → Keeps (λ r. after_start r s)
 keeps-start None = keeps-same
@@ -70,27 +61,38 @@ unfolding after_all
 keeps-all [] = keeps-same
 keeps-all (a ∷ all) = let h = keeps-after a in let k = keeps-all all in record {
   all = λ r. k.all (after r a) ∙ h.all r;
-  outer = λ r. k.outer (after r a) ∙ h.outer r;
   home = λ r. k.home (after r a) ∙ h.home r;
 }
 
 -- ---- a scope
 
-like-scoped : (r q : Around) → IsLike r q → IsLike (scoped r []) (scoped q [])
-like-scoped r q like = record { all = like.all; scopes = ap (λ z. [] ∷ z) like.scopes; home = like.home }
+abbrev pub entered : Stand → Stand
+entered s = record s { scopes = [] ∷ s.scopes }
+
+like-scoped : (r : Around) (s : Stand) → IsLike r s → IsLike (scoped r []) (entered s)
+unfolding outward
+like-scoped r s like = record { all = like.all; finds = λ n. ap (λ z. option_or (find_in n []) z) (like.finds n); home = like.home }
+
+-- after a part of a scope, and the scope's end
+like-left : (r : Around) (s t : Stand) (g : Around → Around) → Keeps g → IsLike r s → IsLike (g (scoped r [])) t → outer_of t.scopes ≡ s.scopes → IsLike r (record t { scopes = outer_of t.scopes })
+like-left r s t g k like inner same =
+    let all : t.all ≡ r.all = inner.all ∙ k.all (scoped r []) in
+    let home : t.home ≡ r.home = inner.home ∙ k.home (scoped r []) in record {
+      all = all;
+      finds = λ n. ap (λ z. outward n (z ++ space_scopes t.all t.home.space)) same ∙ ap (λ z. outward n (s.scopes ++ space_scopes z t.home.space)) (all ∙ sym like.all)
+          ∙ ap (λ z. outward n (s.scopes ++ space_scopes s.all z.space)) (home ∙ sym like.home) ∙ like.finds n;
+      home = home;
+    }
 
 pub in-scope : (a b c d : List Step) (s : Around → List Site) (g : Around → Around) → Keeps g → b ≡ a ++ Enters ∷ [] → Walks b c s g → d ≡ c ++ Leaves ∷ [] → Reads a d (λ r. s (scoped r []))
 unfolding found_by after_steps
 in-scope a b c d s g k enters h leaves = record {
   more = Enters ∷ (h.more ++ Leaves ∷ []);
   grown = leaves ∙ ap (λ z. z ++ Leaves ∷ []) (h.grown ∙ ap (λ z. z ++ h.more) enters) ∙ ap (λ z. z ++ Leaves ∷ []) (append_assoc a (Enters ∷ []) h.more) ∙ append_assoc a (Enters ∷ h.more) (Leaves ∷ []);
-  found = λ r q like. found-append (scoped q []) h.more (Leaves ∷ []) ∙ append-nil (found_by (scoped q []) h.more) ∙ h.found (scoped r []) (scoped q []) (like-scoped r q like);
-  leaves = λ r q like. subst (IsLike r) (sym (after-append (scoped q []) h.more (Leaves ∷ [])))
-      (let w = h.leaves (scoped r []) (scoped q []) (like-scoped r q like) in record {
-        all = w.all ∙ k.all (scoped r []);
-        scopes = ap outer_of w.scopes ∙ k.outer (scoped r []);
-        home = w.home ∙ k.home (scoped r []);
-      });
+  found = λ r q like. found-append (entered q) h.more (Leaves ∷ []) ∙ append-nil (found_by (entered q) h.more) ∙ h.found (scoped r []) (entered q) (like-scoped r q like);
+  leaves = λ r q like. subst (IsLike r) (sym (after-append (entered q) h.more (Leaves ∷ [])))
+      (like-left r q (after_steps (entered q) h.more) g k like (h.leaves (scoped r []) (entered q) (like-scoped r q like)) (h.outer (entered q)));
+  outer = λ q. ap (λ z. outer_of z.scopes) (after-append (entered q) h.more (Leaves ∷ [])) ∙ ap outer_of (h.outer (entered q));
 }
 
 pub scope-part : {E : Type 0} (a b c d : List Step) (s : Around → List Site) (g : Around → Around) (o : Result (Unit {0}) E) → Keeps g → b ≡ a ++ Enters ∷ [] → Walks b c s g → OnOk o (d ≡ c ++ Leaves ∷ [])
@@ -102,8 +104,9 @@ pub looped-part : (a b : List Step) (s : Around → List Site) → Reads a b s �
 looped-part a b s h = record {
   more = h.more;
   grown = h.grown;
-  found = λ r q like. h.found (looped r) q (record { all = like.all; scopes = like.scopes; home = like.home });
-  leaves = λ r q like. let w = h.leaves (looped r) q (record { all = like.all; scopes = like.scopes; home = like.home }) in record { all = w.all; scopes = w.scopes; home = w.home };
+  found = λ r q like. h.found (looped r) q (record { all = like.all; finds = like.finds; home = like.home });
+  leaves = λ r q like. let w = h.leaves (looped r) q (record { all = like.all; finds = like.finds; home = like.home }) in record { all = w.all; finds = w.finds; home = w.home };
+  outer = h.outer;
 }
 
 -- ---- locals with a type
@@ -203,7 +206,7 @@ writes-found r w a = refl
 
 -- the variable of a `for`
 keeps-declare : (w : Word) (ty : TypeExpr) → Keeps (λ r. declare r (declared r.home w (Counter ty)))
-keeps-declare w ty = record { all = λ r. refl; outer = λ r. outer-local (declared r.home w (Counter ty)) r.scopes; home = λ r. refl }
+keeps-declare w ty = record { all = λ r. refl; home = λ r. refl }
 
 pub counted-part : {E : Type 0} (a b c d e : List Step) (w : Word) (ty : TypeExpr) (tree : Stmt) (o : Result (Unit {0}) E) → b ≡ a ++ Enters ∷ [] → c ≡ b ++ Introduces w (Counter ty) ∷ []
     → Reads c d (λ r. stmt_sites (scoped r []) tree) → OnOk o (e ≡ d ++ Leaves ∷ []) → OnOk o (Reads a e (λ r. stmt_sites (scoped (scoped r (counter r ty w ∷ [])) []) tree))
@@ -223,3 +226,15 @@ for-part a b c d e f g start test next tree o enters h i j k leaves =
 pub start-none : (a : List Step) (start : Option Start) → start ≡ None → Walks a a (λ r. start_sites r start) (λ r. after_start r start)
 unfolding found_at
 start-none a start is = subst (λ z. Walks a a (λ r. start_sites r z) (λ r. after_start r z)) (sym is) (walks-none a a (λ r. []) refl (λ r. refl))
+
+pub first-local : {E : Type 0} (a b : List Step) (local : Local) (first : Start) (o : Result (Unit {0}) E) → first ≡ st.Local local → OnOk o (Walks a b (λ r. local_sites r local) (λ r. after_local r local))
+    → OnOk o (Walks a b (λ r. start_sites r (Some first)) (λ r. after_start r (Some first)))
+first-local a b local first o is h = subst (λ z. OnOk o (Walks a b (λ r. start_sites r (Some z)) (λ r. after_start r (Some z)))) (sym is) h
+
+pub first-simple : {E : Type 0} (a b : List Step) (simple : Simple) (first : Start) (o : Result (Unit {0}) E) → first ≡ st.Simple simple → OnOk o (Reads a b (λ r. simple_sites r simple))
+    → OnOk o (Walks a b (λ r. start_sites r (Some first)) (λ r. after_start r (Some first)))
+first-simple a b simple first o is h = subst (λ z. OnOk o (Walks a b (λ r. start_sites r (Some z)) (λ r. after_start r (Some z)))) (sym is) h
+
+pub start-some : {E : Type 0} (a b : List Step) (first : Start) (start : Option Start) (o : Result (Unit {0}) E) → start ≡ Some first → OnOk o (Walks a b (λ r. start_sites r (Some first)) (λ r. after_start r (Some first)))
+    → OnOk o (Walks a b (λ r. start_sites r start) (λ r. after_start r start))
+start-some a b first start o is h = subst (λ z. OnOk o (Walks a b (λ r. start_sites r z) (λ r. after_start r z))) (sym is) h

@@ -17,26 +17,26 @@ use Rattle.cm_meaning.specs.BodySites.{simple_sites, step_sites, target_sites}
 use Rattle.cm_meaning.specs.SiteEquations.{expr_sites-Name, expr_sites-Call}
 use Rattle.cm_tree.specs.declared.type_expr.TypeExpr.{TypeExpr}
 use Rattle.cm_tree.specs.declared.type_expr.TypeExpr.TheVariants as y
-use Rattle.scope_walk.specs.Steps.{Step, Looks, step_after, step_found, after_steps, found_by, found_of, found_at, IsLike, Walks, Reads}
+use Rattle.scope_walk.specs.Steps.{Step, Stand, Looks, outer_of, round, visible, step_after, step_found, after_steps, found_by, found_of, found_at, IsLike, Walks, Reads}
 
 -- ---- what is found where the same is visible
 
-pub find-like : (r q : Around) (p : Path) → IsLike r q → find q p ≡ find r p
+pub find-like : (r : Around) (s : Stand) (p : Path) → IsLike r s → find (round s) p ≡ find r p
 unfolding find
-find-like r q p h = names p.names where
-  names : (ns : List (List ℕ)) → find_names q ns ≡ find_names r ns
+find-like r s p h = names p.names where
+  names : (ns : List (List ℕ)) → find_names (round s) ns ≡ find_names r ns
   names [] = refl
-  names (n ∷ ns) = ap (λ all. onward all (outward n q.scopes) ns) h.all ∙ ap (λ s. onward r.all (outward n s) ns) h.scopes
+  names (n ∷ ns) = ap (λ all. onward all (outward n (visible s)) ns) h.all ∙ ap (λ first. onward r.all first ns) (h.finds n)
 
 -- ---- some steps, and then others
 
-pub found-append : (q : Around) (xs ys : List Step) → found_by q (xs ++ ys) ≡ found_by q xs ++ found_by (after_steps q xs) ys
+pub found-append : (q : Stand) (xs ys : List Step) → found_by q (xs ++ ys) ≡ found_by q xs ++ found_by (after_steps q xs) ys
 unfolding found_by after_steps
 found-append q [] ys = refl
 found-append q (s ∷ xs) ys =
     ap (λ z. step_found q s ++ z) (found-append (step_after q s) xs ys) ∙ sym (append_assoc (step_found q s) (found_by (step_after q s) xs) (found_by (after_steps (step_after q s) xs) ys))
 
-pub after-append : (q : Around) (xs ys : List Step) → after_steps q (xs ++ ys) ≡ after_steps (after_steps q xs) ys
+pub after-append : (q : Stand) (xs ys : List Step) → after_steps q (xs ++ ys) ≡ after_steps (after_steps q xs) ys
 unfolding after_steps
 after-append q [] ys = refl
 after-append q (s ∷ xs) ys = after-append (step_after q s) xs ys
@@ -48,7 +48,7 @@ at-append (s ∷ xs) ys = ap (λ z. found_of s.around (looked_up s.part) ++ z) (
 
 pub walks-none : (a b : List Step) (s : Around → List Site) → b ≡ a → ((r : Around) → found_at (s r) ≡ []) → Reads a b s
 unfolding found_by after_steps
-walks-none a b s is none = record { more = []; grown = is ∙ sym (append-nil a); found = λ r q h. sym (none r); leaves = λ r q h. h }
+walks-none a b s is none = record { more = []; grown = is ∙ sym (append-nil a); found = λ r q h. sym (none r); leaves = λ r q h. h; outer = λ q. refl }
 
 pub walks-then : (a b c : List Step) (s t : Around → List Site) (f g : Around → Around) → Walks a b s f → Walks b c t g → Walks a c (λ r. s r ++ t (f r)) (λ r. g (f r))
 walks-then a b c s t f g h k = record {
@@ -57,11 +57,12 @@ walks-then a b c s t f g h k = record {
   found = λ r q like. found-append q h.more k.more ∙ ap (λ z. z ++ found_by (after_steps q h.more) k.more) (h.found r q like)
       ∙ ap (λ z. found_at (s r) ++ z) (k.found (f r) (after_steps q h.more) (h.leaves r q like)) ∙ sym (at-append (s r) (t (f r)));
   leaves = λ r q like. subst (IsLike (g (f r))) (sym (after-append q h.more k.more)) (k.leaves (f r) (after_steps q h.more) (h.leaves r q like));
+  outer = λ q. ap (λ z. outer_of z.scopes) (after-append q h.more k.more) ∙ k.outer (after_steps q h.more) ∙ h.outer q;
 }
 
 -- where other sites find the same
 pub walks-at : (a b : List Step) (s t : Around → List Site) (f : Around → Around) → ((r : Around) → found_at (t r) ≡ found_at (s r)) → Walks a b s f → Walks a b t f
-walks-at a b s t f same h = record { more = h.more; grown = h.grown; found = λ r q like. h.found r q like ∙ sym (same r); leaves = h.leaves }
+walks-at a b s t f same h = record { more = h.more; grown = h.grown; found = λ r q like. h.found r q like ∙ sym (same r); leaves = h.leaves; outer = h.outer }
 
 pub walks-look : (a b : List Step) (q : Path) (s : Around → List Site) → b ≡ a ++ Looks q ∷ [] → ((r : Around) → found_at (s r) ≡ (q, find r q) ∷ []) → Reads a b s
 unfolding found_by after_steps
@@ -70,6 +71,7 @@ walks-look a b q s grown one = record {
   grown = grown;
   found = λ r p like. ap (λ z. (q, z) ∷ []) (find-like r p q like) ∙ sym (one r);
   leaves = λ r p like. like;
+  outer = λ p. refl;
 }
 
 -- ---- answers

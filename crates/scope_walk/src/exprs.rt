@@ -54,8 +54,9 @@ pub fn walk_exprs<'a>(steps: &mut Steps<'a>, trees: &'a [Expr]) -> Result<(), Al
     Ok(())
 }
 
+/// The steps of a base type.
 #[cycle(expr)]
-fn walk_base<'a>(steps: &mut Steps<'a>, base: &'a Base) -> Result<(), AllocError>
+pub fn walk_base<'a>(steps: &mut Steps<'a>, base: &'a Base) -> Result<(), AllocError>
     ensures { OnOk result (Reads steps.old steps.new (λ r. base_sites r base.now)) }
 {
     match base {

@@ -10,7 +10,7 @@ mod stmts;
 #[cfg(test)]
 mod tests;
 
-pub use exprs::{walk_expr, walk_exprs, walk_optional, walk_type};
+pub use exprs::{walk_base, walk_expr, walk_exprs, walk_optional, walk_type};
 pub use simple::{walk_local, walk_simple};
-pub use steps::{Local, Step, Steps};
+pub use steps::{Declaration, Step, Steps};
 pub use stmts::{walk_block, walk_stmt};

@@ -4,7 +4,7 @@ ghost use Rattle.cm_meaning.specs.Scopes.{declare_all, inferred_local, local_con
 ghost use Rattle.scope_walk.specs.Steps.{Reads, Walks};
 
 use crate::exprs::{walk_expr, walk_exprs, walk_optional, walk_type};
-use crate::steps::{Local as Kind, Steps};
+use crate::steps::{Declaration, Steps};
 use cm_tree::{Init, Local, Simple, Step, Target, TypeExpr, Var};
 use std::alloc::AllocError;
 
@@ -56,7 +56,7 @@ fn walk_constants<'a>(steps: &mut Steps<'a>, inits: &'a [Init]) -> Result<(), Al
 {
     for init in inits {
         walk_expr(steps, &init.value)?;
-        steps.declare(&init.name, Kind::Constant(&init.value))?;
+        steps.declare(&init.name, Declaration::LocalConstant(&init.value))?;
     }
     Ok(())
 }
@@ -66,7 +66,7 @@ fn walk_inferred<'a>(steps: &mut Steps<'a>, inits: &'a [Init]) -> Result<(), All
 {
     for init in inits {
         walk_expr(steps, &init.value)?;
-        steps.declare(&init.name, Kind::Inferred(&init.value))?;
+        steps.declare(&init.name, Declaration::InferredLocal(&init.value))?;
     }
     Ok(())
 }
@@ -76,7 +76,7 @@ fn walk_vars<'a>(steps: &mut Steps<'a>, ty: &'a TypeExpr, vars: &'a [Var]) -> Re
 {
     for var in vars {
         walk_optional(steps, &var.value)?;
-        steps.declare(&var.name, Kind::Typed(ty, var.value.as_ref()))?;
+        steps.declare(&var.name, Declaration::TypedLocal(ty, var.value.as_ref()))?;
     }
     Ok(())
 }

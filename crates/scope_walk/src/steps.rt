@@ -1,22 +1,44 @@
 ghost use Rattle.std.specs.Prelude.{◌≡◌, [], ◌∷◌, ◌++◌, map, OnOk};
 ghost use Rattle.cm_meaning.specs.Sites.{path_of_word};
-ghost use Rattle.scope_walk.specs.Steps.{Looks, Enters, Leaves, Introduces};
+ghost use Rattle.scope_walk.specs.Steps.{Looks, Enters, Leaves, Introduces, EntersUnit, LeavesUnit, EntersSpace, LeavesSpace};
 ghost use Rattle.scope_walk.specs.Meant.{named_as, step_as};
 
-use cm_base::Items;
-use cm_tree::{Expr, Path, TypeExpr, Word};
+use cm_base::{Flow, Items, Kind, Name, Place};
+use cm_tree::{Expr, Fields, Function, Key, Node, Path, TypeExpr, UnitDecl, Word};
 use std::alloc::{AllocError, Global};
 use std::marker::Model;
 
-/// What a name declared in a body stands for.
+/// What a name that is declared in a scope stands for.
 #[derive(Clone, Copy, Debug)]
-pub enum Local<'a> {
-    /// `let a = 1;`
+pub enum Declaration<'a> {
+    /// `struct S { .. }` of a processor or a graph, with the place of its first token
+    Struct(Place, &'a [Fields]),
+    /// `using T = int;` of a processor or a graph
+    Using(&'a TypeExpr),
+    /// `let a = 1;` of a processor or a graph
     Constant(&'a Expr),
-    /// `var a = 1;`
-    Inferred(&'a Expr),
-    /// `int a = 1;`, `int a;`
-    Typed(&'a TypeExpr, Option<&'a Expr>),
+    /// `void f() { .. }` of a processor
+    Function(&'a Function),
+    /// `var a = 1;` of a processor
+    InferredState(&'a Expr),
+    /// `int a = 1;`, `int a;` of a processor
+    TypedState(&'a TypeExpr, Option<&'a Expr>),
+    /// `input stream int a [[ min: 1 ]];`
+    Endpoint(Flow, Kind, &'a TypeExpr, &'a [Key]),
+    /// `node a = P;`
+    Node(&'a Node),
+    /// `using T`, a parameter of a processor or a graph, by its position
+    TypeParameter(usize),
+    /// `int n`, a parameter of a processor or a graph, by its position
+    ValueParameter(usize, &'a TypeExpr),
+    /// a parameter of a function or a handler
+    Parameter(&'a TypeExpr),
+    /// `let a = 1;` in a body
+    LocalConstant(&'a Expr),
+    /// `var a = 1;` in a body
+    InferredLocal(&'a Expr),
+    /// `int a = 1;`, `int a;` in a body
+    TypedLocal(&'a TypeExpr, Option<&'a Expr>),
     /// the variable of `for (wrap<4> i)`
     Counter(&'a TypeExpr),
 }
@@ -33,7 +55,15 @@ pub enum Step<'a> {
     /// The innermost scope ends.
     Leave,
     /// A name is declared in the innermost scope.
-    Declare(&'a Word, Local<'a>),
+    Declare(&'a Word, Declaration<'a>),
+    /// A processor or a graph begins, in a scope of its own.
+    EnterUnit(&'a UnitDecl),
+    /// A processor or a graph ends, and the innermost scope with it.
+    LeaveUnit,
+    /// A namespace of this name begins in the innermost one.
+    EnterSpace(&'a Name),
+    /// The innermost namespace ends.
+    LeaveSpace,
 }
 
 /// Steps in their order. Contracts see what they mean.
@@ -104,9 +134,41 @@ impl<'a> Steps<'a> {
     }
 
     /// A name is declared in the innermost scope.
-    pub fn declare(&mut self, word: &'a Word, local: Local<'a>) -> Result<(), AllocError>
-        ensures { OnOk result (self.new ≡ self.old ++ Introduces word.now (named_as local.entry) ∷ []) }
+    pub fn declare(
+        &mut self,
+        word: &'a Word,
+        declaration: Declaration<'a>,
+    ) -> Result<(), AllocError>
+        ensures { OnOk result (self.new ≡ self.old ++ Introduces word.now (named_as declaration.entry) ∷ []) }
     {
-        self.list.push(Step::Declare(word, local))
+        self.list.push(Step::Declare(word, declaration))
+    }
+
+    /// A processor or a graph begins.
+    pub fn enter_unit(&mut self, unit: &'a UnitDecl) -> Result<(), AllocError>
+        ensures { OnOk result (self.new ≡ self.old ++ EntersUnit unit.now ∷ []) }
+    {
+        self.list.push(Step::EnterUnit(unit))
+    }
+
+    /// A processor or a graph ends.
+    pub fn leave_unit(&mut self) -> Result<(), AllocError>
+        ensures { OnOk result (self.new ≡ self.old ++ LeavesUnit ∷ []) }
+    {
+        self.list.push(Step::LeaveUnit)
+    }
+
+    /// A namespace begins in the innermost one.
+    pub fn enter_space(&mut self, name: &'a Name) -> Result<(), AllocError>
+        ensures { OnOk result (self.new ≡ self.old ++ EntersSpace name.now ∷ []) }
+    {
+        self.list.push(Step::EnterSpace(name))
+    }
+
+    /// The innermost namespace ends.
+    pub fn leave_space(&mut self) -> Result<(), AllocError>
+        ensures { OnOk result (self.new ≡ self.old ++ LeavesSpace ∷ []) }
+    {
+        self.list.push(Step::LeaveSpace)
     }
 }

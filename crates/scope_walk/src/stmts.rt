@@ -6,18 +6,26 @@ ghost use Rattle.scope_walk.specs.Bodies.{for_sites};
 
 use crate::exprs::{walk_expr, walk_optional, walk_type};
 use crate::simple::{walk_local, walk_simple};
-use crate::steps::{Local as Kind, Steps};
+use crate::steps::{Declaration, Steps};
 use cm_tree::{Block, Expr, Simple, Start, Stmt, TypeExpr, Word};
 use std::alloc::AllocError;
 
-// How a `for` of three parts begins, if it does.
+// How a `for` of three parts begins.
+fn walk_first<'a>(steps: &mut Steps<'a>, start: &'a Start) -> Result<(), AllocError>
+    ensures { OnOk result (Walks steps.old steps.new (λ r. start_sites r (Some start.now)) (λ r. after_start r (Some start.now))) }
+{
+    match start {
+        Start::Local(local) => walk_local(steps, local),
+        Start::Simple(simple) => walk_simple(steps, simple),
+    }
+}
+
 fn walk_start<'a>(steps: &mut Steps<'a>, start: &'a Option<Start>) -> Result<(), AllocError>
     ensures { OnOk result (Walks steps.old steps.new (λ r. start_sites r start.now) (λ r. after_start r start.now)) }
 {
     match start {
         None => Ok(()),
-        Some(Start::Local(local)) => walk_local(steps, local),
-        Some(Start::Simple(simple)) => walk_simple(steps, simple),
+        Some(first) => walk_first(steps, first),
     }
 }
 
@@ -115,7 +123,7 @@ fn walk_counted<'a>(
     ensures { OnOk result (Reads steps.old steps.new (λ r. stmt_sites (scoped (scoped r (counter r ty.now word.now ∷ [])) []) tree.now)) }
 {
     steps.enter()?;
-    steps.declare(word, Kind::Counter(ty))?;
+    steps.declare(word, Declaration::Counter(ty))?;
     walk_arm(steps, tree)?;
     steps.leave()
 }

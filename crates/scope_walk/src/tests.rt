@@ -48,6 +48,10 @@ fn letter(step: &Step<'_>) -> char {
         Step::Enter => '{',
         Step::Leave => '}',
         Step::Declare(_, _) => 'd',
+        Step::EnterUnit(_) => '[',
+        Step::LeaveUnit => ']',
+        Step::EnterSpace(_) => '<',
+        Step::LeaveSpace => '>',
     }
 }
 

@@ -1,10 +1,11 @@
 -- Texts of references to texts.
-use Rattle.std.specs.Prelude.{◌≡◌, refl, ℕ, Bool, true, false, List, [], ◌∷◌, Some, option_map, slice_get, bytes_eq, position}
+use Rattle.std.specs.Prelude.{◌≡◌, refl, ℕ, ◌<◌, Bool, true, false, ◌||◌, List, [], ◌∷◌, ◌++◌, length, Some, option_map, slice_get, bytes_eq, position}
 use Rattle.std.specs.List.{list_any, position_or_len}
 use Rattle.std.specs.Borrow.{Bor}
-use Rattle.std.proofs.Common.{ap, sym, ◌∙◌, cond, not, ◌+◌}
+use Rattle.std.proofs.Common.{ap, sym, ◌∙◌, cond, not, ◌+◌, true≢false}
 use Rattle.std.proofs.lemmas.List.{length-map, map-append}
 use Rattle.std.proofs.lemmas.Option.{slice_get-map}
+use Rattle.std.proofs.lemmas.Bool.{lt-ltb}
 use Rattle.std.proofs.lemmas.Slice.Eq.{bytes_eq-Decides}
 use Rattle.indexmap.specs.IndexSet.{insert_key}
 use Rattle.name_scopes.specs.Numbers.{texts_of, number_in, added}
@@ -40,3 +41,25 @@ numbered keys n k (stored, at, same) = slice_get-map (λ (t : Bor (List ℕ)). t
 pub is_new : (keys : List (Bor (List ℕ))) (names : List (List ℕ)) (text : List ℕ) → texts_of keys ≡ names
     → not (list_any (λ (k : Bor (List ℕ)). bytes_eq text k.now) keys) ≡ not (list_any (bytes_eq text) names)
 is_new keys names text is = ap not (any-texts keys text ∙ ap (λ z. list_any (bytes_eq text) z) is)
+
+-- a text that is inserted has the number at which it stands first
+first-end : (p : Bor (List ℕ) → Bool) (keys : List (Bor (List ℕ))) (k : Bor (List ℕ)) → p k ≡ true → list_any p keys ≡ false → position_or_len p (keys ++ k ∷ []) ≡ position_or_len p keys
+first-end p [] k h none = ap (λ b. cond (not b) (1 + 0) 0) h
+first-end p (x ∷ keys) k h none = ap (λ n. cond (not (p x)) (1 + n) 0) (first-end p keys k h (or-right (p x) (list_any p keys) none)) where
+  or-right : (a b : Bool) → (a || b) ≡ false → b ≡ false
+  or-right true b h = absurd (true≢false h)
+  or-right false b h = h
+
+first-inserted : (keys : List (Bor (List ℕ))) (k : Bor (List ℕ))
+    → position_or_len (λ (y : Bor (List ℕ)). bytes_eq k.now y.now) (insert_key (λ (x y : Bor (List ℕ)). bytes_eq x.now y.now) keys k) ≡ position_or_len (λ (y : Bor (List ℕ)). bytes_eq k.now y.now) keys
+first-inserted keys k = by (list_any (λ (y : Bor (List ℕ)). bytes_eq k.now y.now) keys) refl where
+  by : (b : Bool) → list_any (λ (y : Bor (List ℕ)). bytes_eq k.now y.now) keys ≡ b
+      → position_or_len (λ (y : Bor (List ℕ)). bytes_eq k.now y.now) (cond b keys (keys ++ k ∷ [])) ≡ position_or_len (λ (y : Bor (List ℕ)). bytes_eq k.now y.now) keys
+  by true e = refl
+  by false e = first-end (λ (y : Bor (List ℕ)). bytes_eq k.now y.now) keys k ((bytes_eq-Decides k.now k.now).1 refl) e
+
+pub number-first : (keys more : List (Bor (List ℕ))) (k : Bor (List ℕ)) (n : ℕ) → more ≡ insert_key (λ (x y : Bor (List ℕ)). bytes_eq x.now y.now) keys k
+    → n ≡ position_or_len (λ (y : Bor (List ℕ)). bytes_eq k.now y.now) keys → n < length more → number_in (texts_of more) k.now ≡ Some n
+number-first keys more k n grown is within = sym (position-texts more k.now) ∙ by n (is ∙ sym (ap (position_or_len (λ (y : Bor (List ℕ)). bytes_eq k.now y.now)) grown ∙ first-inserted keys k)) within where
+  by : (m : ℕ) → m ≡ position_or_len (λ (y : Bor (List ℕ)). bytes_eq k.now y.now) more → m < length more → position (λ (y : Bor (List ℕ)). bytes_eq k.now y.now) more ≡ Some m
+  by m e below = rw (← e, lt-ltb m (length more) below) refl

@@ -1,5 +1,5 @@
 -- Namespaces that are opened, and the declarations of their paths.
-use Rattle.std.specs.Prelude.{◌≡◌, refl, ℕ, zero, suc, ◌+◌, ◌<◌, List, [], ◌∷◌, ◌++◌, length, map, flat_map, take, drop, Some, Result, Ok, Err, slice_get, slice_index_or}
+use Rattle.std.specs.Prelude.{◌≡◌, refl, ℕ, zero, suc, ◌+◌, ◌<◌, List, [], ◌∷◌, ◌++◌, length, map, flat_map, take, drop, Some, Result, Ok, Err, IfOk, OnOk, slice_get, slice_index_or}
 use Rattle.std.specs.Borrow.{Bor}
 use Rattle.std.proofs.Common.{ap, sym, ◌∙◌, subst, arith, get_or}
 use Rattle.std.proofs.Math.Seq.{take-length}
@@ -34,6 +34,12 @@ opening-is spaces longer space i p text h below at =
 
 names-more : (spaces longer : List Space) (names : List Member) (entries : List (Opening × ℕ)) → AreIndexed spaces names entries → IsLonger spaces longer → names_in longer names ≡ names_in spaces names
 names-more spaces longer names entries all h = ap (λ z. names_in z names) h.is ∙ names-longer spaces h.more names all.below
+
+-- a namespace that gets a number changes no declaration
+pub numbered-names : {E : Type 0} (spaces longer : List Space) (names : List Member) (entries : List (Opening × ℕ)) (v : Known) (space : ℕ) (text : List ℕ) (o : Result ℕ E) → AreIndexed spaces names entries
+    → known spaces names ≡ v → IfOk o (λ _. longer ≡ with_space spaces (inner spaces space text)) → OnOk o (names_of (known longer names) ≡ names_of v)
+numbered-names spaces longer names entries v space text (Ok n) all is grown = names-more spaces longer names entries all (opened-more spaces longer (inner spaces space text) grown) ∙ ap names_of is
+numbered-names spaces longer names entries v space text (Err e) all is grown = tt
 
 -- what a call answers that declares a part of a namespace after it was opened
 pub opened-adds : {A : Type 0} (spaces longer : List Space) (names : List Member) (entries : List (Opening × ℕ)) (v new : Known) (space i : ℕ) (p : Place) (text : Bor (List ℕ)) (r : Result A Fail)

@@ -5,11 +5,11 @@ use Rattle.std.proofs.Common.{ap, sym, ◌∙◌, subst, arith, cond, true≢fal
 use Rattle.std.proofs.lemmas.List.{length-append, length-map, map-append, get_or_append_left}
 use Rattle.std.proofs.lemmas.Slice.Eq.{bytes_eq-Decides}
 use Rattle.std.proofs.lemmas.Bool.{eqb-true, eq-eqb, lt-ltb, le-ltb, ltb-true, ltb-false}
-use Rattle.std.proofs.lemmas.Option.{slice_get-map}
+use Rattle.std.proofs.lemmas.Option.{slice_get-map, slice_get-get_or, get_or_from_slice_get}
 use Rattle.indexmap.specs.IndexSet.{insert_key}
 use Rattle.cm_meaning.specs.Declared.{Space}
 use Rattle.cm_meaning.specs.Scopes.{is_space}
-use Rattle.name_scopes.specs.Openings.{Opening, inner, opened_from, spaces_of, space_number, with_space, AreDistinct, StandBelow, opens, AreRooted}
+use Rattle.name_scopes.specs.Openings.{Opening, inner, outer_space, opened_from, spaces_of, space_number, with_space, AreDistinct, StandBelow, opens, AreRooted}
 
 -- ---- equal namespaces
 
@@ -212,3 +212,41 @@ spaces-count openings v n h is many = (
       let k = length-map openings (opens (spaces_of openings)) in omega (arith, l, k, many),
   subst AreDistinct is h.distinct,
 )
+
+stands-at : (n : ℕ) (openings : List Opening) (k : ℕ) (a : Opening) → StandBelow n openings → slice_get openings k ≡ Some a → a.0 < n
+stands-at n [] k a h at = cc
+stands-at n (x ∷ openings) zero a h at = let e : x ≡ a = cc in subst (λ (z : Opening). z.0 < n) e h.0
+stands-at n (x ∷ openings) (suc k) a h at = stands-at n openings k a h.1 at
+
+outer-none : (v : List Space) (openings : List Opening) → v ≡ [] ∷ map (opens v) openings → outer_space (slice_index_or v 0 []) ≡ None
+outer-none v openings is = ap (λ z. outer_space (slice_index_or z 0 [])) is
+
+-- a namespace stands in that of its opening
+outer-at : (v : List Space) (openings : List Opening) (n k : ℕ) (a : Opening) → AreRooted openings v → n ≡ suc k → slice_get openings k ≡ Some a
+    → Some (slice_get v a.0) ≡ option_map Some (outer_space (slice_index_or v n []))
+outer-at v openings n k a h is at =
+    let read = slice_get-map (opens v) openings k ∙ ap (option_map (opens v)) at in
+    ap Some (slice_get-get_or v a.0 [] (stands-at (length v) openings k a h.below at))
+    ∙ sym (ap (λ m. option_map Some (outer_space (slice_index_or v m []))) is ∙ ap (λ z. option_map Some (outer_space (slice_index_or z (suc k) []))) h.each
+    ∙ ap (λ s. option_map Some (outer_space s)) (get_or_from_slice_get (map (opens v) openings) k (opens v a) [] read))
+
+pub whole-outer : (openings : List Opening) (v : List Space) (n : ℕ) → AreRooted openings (spaces_of openings) → spaces_of openings ≡ v → n ≡ 0
+    → None ≡ option_map Some (outer_space (slice_index_or v n []))
+whole-outer openings v n h is first =
+    let g = subst (AreRooted openings) is h in
+    sym (ap (λ m. option_map Some (outer_space (slice_index_or v m []))) first ∙ ap (option_map Some) (outer-none v openings g.each))
+
+pub inner-outer : (openings : List Opening) (v : List Space) (n k : ℕ) (a : Opening) → AreRooted openings (spaces_of openings) → spaces_of openings ≡ v → n ≡ suc k → slice_get openings k ≡ Some a
+    → Some (slice_get v a.0) ≡ option_map Some (outer_space (slice_index_or v n []))
+inner-outer openings v n k a h is one at = outer-at v openings n k a (subst (AreRooted openings) is h) one at
+
+pub no-outer : (openings : List Opening) (v : List Space) (n k : ℕ) → AreRooted openings (spaces_of openings) → spaces_of openings ≡ v → n ≡ suc k → n < length v → slice_get openings k ≡ None → ⊥
+no-outer openings v n k h is one below none =
+    let g = subst (AreRooted openings) is h in
+    let l : length v ≡ length ([] ∷ map (opens v) openings) = ap length g.each in
+    let m = length-map openings (opens v) in
+    some-within openings k (omega (arith, l, m, one, below)) none where
+      some-within : (openings : List Opening) (k : ℕ) → k < length openings → slice_get openings k ≡ None → ⊥
+      some-within [] k below none = omega (arith, below)
+      some-within (x ∷ openings) zero below none = cc
+      some-within (x ∷ openings) (suc k) below none = some-within openings k (omega (arith, below)) none

@@ -1,10 +1,10 @@
 -- A log that grows by a step, and one that a step is taken from: what happens to the scopes and to the stacks.
-use Rattle.std.specs.Prelude.{◌≡◌, refl, ℕ, zero, suc, ◌<◌, ◌≤◌, ◌==◌, ◌-◌, Bool, true, false, List, [], ◌∷◌, ◌++◌, length, Option, Some, None, MatchOption, slice_get, slice_index_or, slice_set}
+use Rattle.std.specs.Prelude.{◌≡◌, refl, ℕ, zero, suc, ◌<◌, ◌≤◌, ◌==◌, ◌+◌, ◌-◌, nat_lt, Bool, true, false, List, [], ◌∷◌, ◌++◌, length, Option, Some, None, MatchOption, slice_get, slice_index_or, slice_set}
 use Rattle.std.proofs.Common.{ap, sym, ◌∙◌, subst, arith}
 use Rattle.std.proofs.lemmas.Option.{slice_get_read}
 use Rattle.std.proofs.Math.Seq.{get_or-append_seam}
-use Rattle.std.proofs.lemmas.List.{append-nil, append_assoc, length-append, length-set, get_or-set_same, get_or-set_other}
-use Rattle.std.proofs.lemmas.Bool.{eqb-true, eqb-false, eq-eqb}
+use Rattle.std.proofs.lemmas.List.{append-nil, append_assoc, length-append, length-set, get_or-set_same, get_or-set_other, get_or_append_left}
+use Rattle.std.proofs.lemmas.Bool.{eqb-true, eqb-false, eq-eqb, ltb-true, ltb-false}
 use Rattle.name_scopes.specs.declared.table.Entry.{Entry}
 use Rattle.name_scopes.specs.declared.table.Step.{Step}
 use Rattle.name_scopes.specs.declared.table.Step.TheVariants as step
@@ -80,9 +80,22 @@ found-newest stacks steps n s h within is = rw (is, h.each n within) (newest-fou
 eq-same : (a : ℕ) → (a == a) ≡ true
 eq-same a = eq-eqb a a refl
 
+below-differs : (e n k : ℕ) → e < k → k ≤ n → (e == n) ≡ false
+below-differs e n k below past = by (e == n) refl where
+  by : (b : Bool) → (e == n) ≡ b → (e == n) ≡ false
+  by true t = absurd (let i = eqb-true e n t in omega (arith, i, below, past))
+  by false f = f
+
 pub stacked-declare : (stacks : List (List ℕ)) (steps longer : List Step) (e : Entry) (s old : List ℕ) → IsStacked stacks steps → e.name < length stacks
     → old ≡ slice_index_or stacks e.name [] → s ≡ old ++ e.declaration ∷ [] → longer ≡ steps ++ step.Declared e ∷ [] → IsStacked (slice_set stacks e.name s) longer
-stacked-declare stacks steps longer e s old h within was is grown = record { each = λ n below. by n (subst (λ k. n < k) (length-set stacks e.name s) below) (e.name == n) refl } where
+stacked-declare stacks steps longer e s old h within was is grown = record {
+  each = λ n below. by n (subst (λ k. n < k) (length-set stacks e.name s) below) (e.name == n) refl;
+  past = λ n past. beyond n (subst (λ k. k ≤ n) (length-set stacks e.name s) past);
+} where
+  beyond : (n : ℕ) → length stacks ≤ n → stack_of n longer ≡ []
+  beyond n past = ap (stack_of n) grown ∙ stack-snoc n steps (step.Declared e) ∙ ap (λ b. stack_of n steps ++ one_if b e.declaration) (below-differs e.name n (length stacks) within past)
+      ∙ append-nil (stack_of n steps) ∙ h.past n past
+
   of_same : s ≡ stack_of e.name steps ++ e.declaration ∷ []
   of_same = is ∙ ap (λ z. z ++ e.declaration ∷ []) (was ∙ h.each e.name within)
 
@@ -94,17 +107,50 @@ stacked-declare stacks steps longer e s old h within was is grown = record { eac
 
 -- a scope is opened
 pub stacked-enter : (stacks : List (List ℕ)) (steps longer : List Step) → IsStacked stacks steps → longer ≡ steps ++ step.Entered ∷ [] → IsStacked stacks longer
-stacked-enter stacks steps longer h grown = record { each = λ n below. h.each n below ∙ sym (ap (stack_of n) grown ∙ stack-snoc n steps step.Entered ∙ append-nil (stack_of n steps)) }
+stacked-enter stacks steps longer h grown = record {
+  each = λ n below. h.each n below ∙ sym (ap (stack_of n) grown ∙ stack-snoc n steps step.Entered ∙ append-nil (stack_of n steps));
+  past = λ n past. ap (stack_of n) grown ∙ stack-snoc n steps step.Entered ∙ append-nil (stack_of n steps) ∙ h.past n past;
+}
+
+-- a name more
+pub stacked-grow : (stacks longer : List (List ℕ)) (steps : List Step) (s : List ℕ) → IsStacked stacks steps → s ≡ [] → longer ≡ stacks ++ s ∷ [] → IsStacked longer steps
+stacked-grow stacks longer steps s h none grown = record {
+  each = λ n below. at n below (nat_lt n (length stacks)) refl;
+  past = λ n past. h.past n (let m = many in omega (arith, m, past));
+} where
+  many : length longer ≡ length stacks + 1
+  many = ap length grown ∙ length-append stacks (s ∷ [])
+
+  at : (n : ℕ) → n < length longer → (b : Bool) → nat_lt n (length stacks) ≡ b → slice_index_or longer n [] ≡ stack_of n steps
+  at n below true t = ap (λ z. slice_index_or z n []) grown ∙ get_or_append_left stacks (s ∷ []) [] n (ltb-true n (length stacks) t) ∙ h.each n (ltb-true n (length stacks) t)
+  at n below false f =
+      let last : n ≡ length stacks = (let p = ltb-false n (length stacks) f in let m = many in omega (arith, p, m, below)) in
+      ap (λ z. slice_index_or z n []) grown ∙ ap (λ k. slice_index_or (stacks ++ s ∷ []) k []) last ∙ get_or-append_seam stacks s [] [] ∙ none
+      ∙ sym (h.past n (ltb-false n (length stacks) f))
 
 -- ---- a step is taken back
 
 pub stacked-left : (stacks : List (List ℕ)) (steps shorter : List Step) → IsStacked stacks steps → steps ≡ shorter ++ step.Entered ∷ [] → IsStacked stacks shorter
-stacked-left stacks steps shorter h was = record { each = λ n below. h.each n below ∙ ap (stack_of n) was ∙ stack-snoc n shorter step.Entered ∙ append-nil (stack_of n shorter) }
+stacked-left stacks steps shorter h was = record {
+  each = λ n below. h.each n below ∙ ap (stack_of n) was ∙ stack-snoc n shorter step.Entered ∙ append-nil (stack_of n shorter);
+  past = λ n past. sym (ap (stack_of n) was ∙ stack-snoc n shorter step.Entered ∙ append-nil (stack_of n shorter)) ∙ h.past n past;
+}
+
+none-before : (a b : List ℕ) → a ++ b ≡ [] → a ≡ []
+none-before [] b h = refl
+none-before (x ∷ a) b h = cc
+
+-- what was not on a stack was not there a step before
+past-before : (n : ℕ) (steps shorter : List Step) (s : Step) → steps ≡ shorter ++ s ∷ [] → stack_of n steps ≡ [] → stack_of n shorter ≡ []
+past-before n steps shorter s was h = none-before (stack_of n shorter) (put_on n s) (sym (ap (stack_of n) was ∙ stack-snoc n shorter s) ∙ h)
 
 pub stacked-undo : (stacks : List (List ℕ)) (steps shorter : List Step) (e : Entry) (s old : List ℕ) (o : Option ℕ) → IsStacked stacks steps → e.name < length stacks
     → steps ≡ shorter ++ step.Declared e ∷ [] → old ≡ slice_index_or stacks e.name [] → MatchOption o ((old ≡ []) × (s ≡ [])) (λ x. old ≡ s ++ x ∷ [])
     → IsStacked (slice_set stacks e.name s) shorter
-stacked-undo stacks steps shorter e s old o h within was from popped = record { each = λ n below. by n (subst (λ k. n < k) (length-set stacks e.name s) below) (e.name == n) refl } where
+stacked-undo stacks steps shorter e s old o h within was from popped = record {
+  each = λ n below. by n (subst (λ k. n < k) (length-set stacks e.name s) below) (e.name == n) refl;
+  past = λ n past. past-before n steps shorter (step.Declared e) was (h.past n (subst (λ k. k ≤ n) (length-set stacks e.name s) past));
+} where
   held : old ≡ stack_of e.name shorter ++ e.declaration ∷ []
   held = from ∙ h.each e.name within ∙ ap (stack_of e.name) was ∙ stack-snoc e.name shorter (step.Declared e) ∙ ap (λ b. stack_of e.name shorter ++ one_if b e.declaration) (eq-same e.name)
 
@@ -121,6 +167,7 @@ pub stacked-skip : (stacks : List (List ℕ)) (steps shorter : List Step) (e : E
 stacked-skip stacks steps shorter e h past was = record {
   each = λ n below. h.each n below ∙ ap (stack_of n) was ∙ stack-snoc n shorter (step.Declared e)
       ∙ ap (λ b. stack_of n shorter ++ one_if b e.declaration) (differs n below (e.name == n) refl) ∙ append-nil (stack_of n shorter);
+  past = λ n beyond. past-before n steps shorter (step.Declared e) was (h.past n beyond);
 } where
   differs : (n : ℕ) → n < length stacks → (b : Bool) → (e.name == n) ≡ b → (e.name == n) ≡ false
   differs n below true t = absurd (let i = eqb-true e.name n t in omega (arith, i, past, below))
@@ -167,7 +214,7 @@ are_empty-push stacks longer s h is grown = record { each = λ n. ap (λ z. slic
 
 pub stacked-none : (stacks : List (List ℕ)) (steps : List Step) → AreEmpty stacks → steps ≡ [] → IsStacked stacks steps
 unfolding stack_of
-stacked-none stacks steps h is = record { each = λ n below. h.each n ∙ sym (ap (stack_of n) is) }
+stacked-none stacks steps h is = record { each = λ n below. h.each n ∙ sym (ap (stack_of n) is); past = λ n past. ap (stack_of n) is }
 
 -- ---- what a table shows after each call
 
@@ -178,6 +225,10 @@ pub visible-none : (stacks : List (List ℕ)) (steps : List Step) (names : ℕ) 
     → shown (length stacks) (opened steps) ≡ shown (names) ([])
 unfolding opened_in
 visible-none stacks steps names many is = rw (many, is) refl
+
+pub visible-grow : (stacks longer : List (List ℕ)) (s : List ℕ) (steps : List Step) (v : Visible) → shown (length stacks) (opened steps) ≡ v
+    → longer ≡ stacks ++ s ∷ [] → shown (length longer) (opened steps) ≡ shown (v.names + 1) (v.scopes)
+visible-grow stacks longer s steps v is grown = rw (← is, grown, length-append stacks (s ∷ [])) refl
 
 pub visible-enter : (stacks : List (List ℕ)) (steps longer : List Step) (v : Visible) → shown (length stacks) (opened steps) ≡ v
     → longer ≡ steps ++ step.Entered ∷ [] → shown (length stacks) (opened longer) ≡ shown (v.names) ([] ∷ v.scopes)

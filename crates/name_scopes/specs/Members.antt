@@ -1,6 +1,6 @@
 -- The declarations of namespaces, and what is refused among them: docs/LANGUAGE.md, "Names". Two of one name in one namespace
 -- have to be parts of a namespace.
-use Rattle.std.specs.Prelude.{◌≡◌, ℕ, suc, ◌<◌, Bool, true, false, not, ◌&&◌, nat_eq, bytes_eq, List, [], ◌∷◌, ◌++◌, length, map, flat_map, filter_map, if◌then◌else◌, Option, Some, None, Result, Ok, Err, slice_index_or, option_map}
+use Rattle.std.specs.Prelude.{◌≡◌, ℕ, suc, ◌<◌, Bool, true, false, not, ◌&&◌, nat_eq, bytes_eq, List, [], ◌∷◌, ◌++◌, length, map, flat_map, filter_map, if◌then◌else◌, Option, Some, None, Result, Ok, Err, slice_get, slice_index_or, option_and_then, option_map}
 use Rattle.std.specs.List.{list_any}
 use Rattle.std.specs.Map.{lookup}
 use Rattle.cm_base.specs.declared.cause.Cause.TheVariants as cause
@@ -10,7 +10,7 @@ use Rattle.cm_tree.specs.declared.file.File.{File}
 use Rattle.cm_base.specs.declared.failure.Fail.{Fail}
 use Rattle.cm_base.specs.declared.failure.Fail.TheVariants as fail
 use Rattle.cm_meaning.specs.Declared.{Space, Named, Namespace, Processor, Graph, Struct, Using, Constant, Function, Declared}
-use Rattle.cm_meaning.specs.Scopes.{in_space, declared, constant, decl_names}
+use Rattle.cm_meaning.specs.Scopes.{in_space, declared, constant, decl_names, find_inner}
 use Rattle.cm_meaning.specs.NameFaults.{clashes, unit_faults}
 use Rattle.cm_meaning.specs.Mains.{as_unit}
 use Rattle.cm_meaning.specs.Faults.{Fault, fault, unless}
@@ -48,6 +48,16 @@ is_part (n.Using ty) = false
 is_part (n.Constant a) = false
 is_part (n.Function f) = false
 
+-- the number of the namespace that this is a part of
+abbrev pub namespace_number : Part → Option ℕ
+namespace_number (n.Namespace i) = Some i
+namespace_number (n.Processor u) = None
+namespace_number (n.Graph u) = None
+namespace_number (n.Struct p fields) = None
+namespace_number (n.Using ty) = None
+namespace_number (n.Constant a) = None
+namespace_number (n.Function f) = None
+
 -- a part of the namespace of this name in another
 abbrev pub part_of : List Space → ℕ → Place → List ℕ → Declared
 part_of spaces space p name = declared (in_space (slice_index_or spaces space [])) (record { place = p; text = name }) (Namespace (inner spaces space name))
@@ -61,6 +71,18 @@ pub record Known : Type 0 where
 -- the declarations
 abbrev pub names_of : Known → List Declared
 names_of k = names_in k.spaces k.members
+
+-- what is found has this number, or nothing is found
+abbrev pub IsNumberOf : List Declared → Option ℕ → Option Declared → Type 0
+IsNumberOf names number found = option_map (slice_get names) number ≡ option_map Some found
+
+-- what a name finds in the declaration of a number
+abbrev pub found_within : List Declared → ℕ → List ℕ → Option Declared
+found_within names number text = option_and_then (λ (x : Declared). find_inner names text x.named) (slice_get names number)
+
+-- the number of the namespace that the declaration of a number is a part of
+abbrev pub space_at : List Member → ℕ → Option ℕ
+space_at members number = option_and_then (λ (m : Member). namespace_number m.named) (slice_get members number)
 
 abbrev pub is_below : ℕ → Part → Type 0
 is_below count (n.Namespace i) = i < count

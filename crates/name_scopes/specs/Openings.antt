@@ -1,6 +1,6 @@
 -- Numbers of namespaces: docs/LANGUAGE.md, "Names". The whole patch is number 0, and each other namespace has a number
 -- above that of the one that it stands in.
-use Rattle.std.specs.Prelude.{◌≡◌, ℕ, ◌<◌, false, List, [], ◌∷◌, ◌++◌, length, map, if◌then◌else◌, Option, position, slice_index_or}
+use Rattle.std.specs.Prelude.{◌≡◌, ℕ, ◌<◌, false, List, [], ◌∷◌, ◌++◌, length, map, if◌then◌else◌, Option, Some, None, position, slice_index_or}
 use Rattle.std.specs.List.{list_any}
 use Rattle.std.specs.Borrow.{Bor}
 use Rattle.cm_meaning.specs.Declared.{Space}
@@ -13,6 +13,11 @@ Opening = ℕ × Bor (List ℕ)
 -- the namespace that a name opens
 abbrev pub inner : List Space → ℕ → List ℕ → Space
 inner spaces space name = name ∷ slice_index_or spaces space []
+
+-- the namespace that another stands in
+abbrev pub outer_space : Space → Option Space
+outer_space [] = None
+outer_space (name ∷ space) = Some space
 
 unfoldable pub opened_from : List Space → List Opening → List Space
 opened_from spaces [] = spaces

@@ -1,6 +1,6 @@
 -- Scopes as a table keeps them: a log of what was opened and declared, and for each name a stack of what it stood for. What
 -- is found is what the scopes say, from the innermost outward: docs/LANGUAGE.md, "Names".
-use Rattle.std.specs.Prelude.{◌≡◌, ℕ, ◌<◌, ◌==◌, Bool, true, false, if◌then◌else◌, List, [], ◌∷◌, ◌++◌, length, Option, Some, None, slice_index_or}
+use Rattle.std.specs.Prelude.{◌≡◌, ℕ, ◌<◌, ◌≤◌, ◌==◌, Bool, true, false, if◌then◌else◌, List, [], ◌∷◌, ◌++◌, length, Option, Some, None, slice_index_or}
 use Rattle.std.specs.Option.{option_or}
 use Rattle.name_scopes.specs.declared.table.Entry.{Entry}
 use Rattle.name_scopes.specs.declared.table.Step.{Step}
@@ -63,3 +63,5 @@ stack_of n (s ∷ steps) = put_on n s ++ stack_of n steps
 
 pub record IsStacked (stacks : List (List ℕ)) (steps : List Step) : Type 0 where
   pub each : (n : ℕ) → n < length stacks → slice_index_or stacks n [] ≡ stack_of n steps
+  -- a name that has no stack is declared nowhere
+  pub past : (n : ℕ) → length stacks ≤ n → stack_of n steps ≡ []

@@ -1,9 +1,9 @@
-ghost use Rattle.std.specs.Prelude.{◌≡◌, ◌<◌, ◌∷◌, [], ◌++◌, ◌&&◌, false, not, length, option_and_then, slice_get, slice_index_or, OnOk, OnErr, IfOk, Some};
+ghost use Rattle.std.specs.Prelude.{◌≡◌, ◌<◌, ◌∷◌, [], ◌++◌, ◌&&◌, false, not, length, slice_get, slice_index_or, option_map, IfSome, OnOk, OnErr, IfOk, Some};
 ghost use Rattle.std.specs.List.{list_any};
 ghost use Rattle.cm_meaning.specs.NameFaults.{clashes};
-ghost use Rattle.cm_meaning.specs.Scopes.{find_in, space_names};
-ghost use Rattle.name_scopes.specs.Openings.{AreDistinct, inner};
-ghost use Rattle.name_scopes.specs.Members.{Adds, IsBelow, declared_in, is_part, names_of, part_of};
+ghost use Rattle.cm_meaning.specs.Scopes.{find_in, outward, space_names, space_scopes};
+ghost use Rattle.name_scopes.specs.Openings.{AreDistinct, inner, outer_space};
+ghost use Rattle.name_scopes.specs.Members.{Adds, IsBelow, IsNumberOf, declared_in, found_within, is_part, names_of, namespace_number, part_of, space_at};
 
 use crate::named::{Member, Named};
 use crate::spaces::Spaces;
@@ -49,6 +49,20 @@ fn is_namespace(named: &Named<'_>) -> bool
         Named::Using(_) => false,
         Named::Constant(_) => false,
         Named::Function(_) => false,
+    }
+}
+
+fn namespace_number(named: &Named<'_>) -> Option<usize>
+    ensures { result ≡ namespace_number named.now }
+{
+    match named {
+        Named::Namespace(number) => Some(*number),
+        Named::Processor(_) => None,
+        Named::Graph(_) => None,
+        Named::Struct(_, _) => None,
+        Named::Using(_) => None,
+        Named::Constant(_) => None,
+        Named::Function(_) => None,
     }
 }
 
@@ -144,6 +158,7 @@ impl<'a> Members<'a> {
         requires { space < length self.old.spaces }
         ensures adds { Adds self.old (part_of self.old.spaces space place text.now ∷ []) result self.new }
         ensures number { IfOk result (λ n. slice_get self.new.spaces n ≡ Some (inner self.old.spaces space text.now)) }
+        ensures below { IfOk result (λ n. n < length self.new.spaces) }
     {
         let inner = self.spaces.open(space, text)?;
         self.declare(
@@ -161,11 +176,65 @@ impl<'a> Members<'a> {
     /// The number of what a name finds in a namespace: its first declaration there.
     pub fn find(&self, space: usize, text: &'a str) -> Option<usize>
         requires { space < length self.now.spaces }
-        ensures { option_and_then (slice_get (names_of self.now)) result ≡ find_in text.now (space_names (names_of self.now) (slice_index_or self.now.spaces space [])) }
+        ensures { IsNumberOf (names_of self.now) result (find_in text.now (space_names (names_of self.now) (slice_index_or self.now.spaces space []))) }
     {
         // No two namespaces are one.
         let _count = self.spaces.count();
         self.firsts.get(&(space, text)).copied()
+    }
+
+    /// The number of the namespace that another stands in. The whole patch stands in none.
+    pub fn outer(&self, space: usize) -> Option<usize>
+        requires { space < length self.now.spaces }
+        ensures { option_map (slice_get self.now.spaces) result ≡ option_map Some (outer_space (slice_index_or self.now.spaces space [])) }
+    {
+        self.spaces.outer(space)
+    }
+
+    /// The number of the namespace of this name in another, which it gets now if it has none. Nothing is declared.
+    pub fn number_space(&mut self, space: usize, text: &'a str) -> Result<usize, AllocError>
+        requires { space < length self.old.spaces }
+        ensures number { IfOk result (λ n. slice_get self.new.spaces n ≡ Some (inner self.old.spaces space text.now)) }
+        ensures names { OnOk result (names_of self.new ≡ names_of self.old) }
+        ensures err { OnErr result (self.new ≡ self.old) }
+    {
+        self.spaces.open(space, text)
+    }
+
+    /// The number of what a name finds from a namespace outward: in the first that has it, of the namespace and those round it.
+    pub fn find_outward(&self, space: usize, text: &'a str) -> Option<usize>
+        requires { space < length self.now.spaces }
+        ensures { IsNumberOf (names_of self.now) result (outward text.now (space_scopes (names_of self.now) (slice_index_or self.now.spaces space []))) }
+    {
+        let mut inner = Some(space);
+        while let Some(number) = inner {
+            if let Some(found) = self.find(number, text) {
+                return Some(found);
+            }
+            inner = self.outer(number);
+        }
+        None
+    }
+
+    /// The number of what a name finds in the declaration of a number: only a namespace has names.
+    pub fn find_inner(&self, number: usize, text: &'a str) -> Option<usize>
+        ensures { IsNumberOf (names_of self.now) result (found_within (names_of self.now) number text.now) }
+    {
+        match self.space_of(number) {
+            None => None,
+            Some(space) => self.find(space, text),
+        }
+    }
+
+    // The number of the namespace that the declaration of a number is a part of.
+    fn space_of(&self, number: usize) -> Option<usize>
+        ensures below { IfSome result (λ n. n < length self.now.spaces) }
+        ensures space { result ≡ space_at self.now.members number }
+    {
+        match self.names.get(number) {
+            None => None,
+            Some(member) => namespace_number(&member.named),
+        }
     }
 
     /// The declarations, each at its number.

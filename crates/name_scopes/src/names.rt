@@ -42,6 +42,7 @@ impl<'a> Names<'a> {
     /// The number of this text, which it gets now if it has none.
     pub fn number(&mut self, text: &'a str) -> Result<usize, AllocError>
         ensures number { IfOk result (λ n. slice_get self.new n ≡ Some text.now) }
+        ensures first { IfOk result (λ n. number_in self.new text.now ≡ Some n) }
         ensures names { IfOk result (λ n. self.new ≡ added self.old text.now) }
         ensures err { OnErr result (self.new ≡ self.old) }
     {

@@ -1,5 +1,5 @@
-ghost use Rattle.std.specs.Prelude.{◌≡◌, ◌<◌, ◌∷◌, [], length, slice_get, OnErr, IfOk, Some};
-ghost use Rattle.name_scopes.specs.Openings.{AreDistinct, inner, space_number, with_space};
+ghost use Rattle.std.specs.Prelude.{◌≡◌, ◌<◌, ◌∷◌, [], length, option_map, slice_get, slice_index_or, OnErr, IfOk, Some};
+ghost use Rattle.name_scopes.specs.Openings.{AreDistinct, inner, outer_space, space_number, with_space};
 
 use indexmap::IndexSet;
 use std::alloc::{AllocError, Global};
@@ -72,6 +72,21 @@ impl<'a> Spaces<'a> {
                 Some(place + 1)
             }
             None => None,
+        }
+    }
+
+    /// The number of the namespace that another stands in. The whole patch stands in none.
+    pub fn outer(&self, number: usize) -> Option<usize>
+        requires { number < length self.now }
+        ensures { option_map (slice_get self.now) result ≡ option_map Some (outer_space (slice_index_or self.now number [])) }
+    {
+        let openings = &self.openings;
+        if number == 0 {
+            return None;
+        }
+        match openings.get_index(number - 1).copied() {
+            None => None,
+            Some((space, _name)) => Some(space),
         }
     }
 }

@@ -1,4 +1,4 @@
-ghost use Rattle.std.specs.Prelude.{◌≡◌, ℕ, ◌<◌, ◌++◌, ◌∷◌, [], List, Bool, length, replicate, OnOk, OnErr, IfOk, if◌then◌else◌, IsTrue};
+ghost use Rattle.std.specs.Prelude.{◌≡◌, ℕ, ◌+◌, ◌<◌, ◌++◌, ◌∷◌, [], List, Bool, length, replicate, OnOk, OnErr, IfOk, if◌then◌else◌, IsTrue};
 ghost use Rattle.name_scopes.specs.Stacks.{found, Visible, IsStacked, opened, outer_of, with_entry};
 
 use sqlite_items::Items;
@@ -9,7 +9,7 @@ use std::marker::Model;
 #[derive(Clone, Copy, Debug)]
 pub struct Entry {
     pub name: usize,
-    pub declaration: u32,
+    pub declaration: usize,
 }
 
 /// What was done to a table.
@@ -19,12 +19,12 @@ enum Step {
     Declared(Entry),
 }
 
-/// The scopes round a place, each with its declarations. Names are numbers below a fixed count. A look-up takes constant time,
-/// and a scope is left in the time of its declarations.
+/// The scopes round a place, each with its declarations. Names are numbers below a count, which grows one by one. A look-up
+/// takes constant time, and a scope is left in the time of its declarations.
 #[derive(Drop)]
 pub struct Table {
     // what each name stands for, the innermost declaration last
-    stacks: Vec<Items<u32>>,
+    stacks: Vec<Items<usize>>,
     // all that wasn't left, the newest last
     log: Items<Step>,
 }
@@ -41,7 +41,7 @@ impl Model for Table {
 }
 
 /// Takes the newest step back. Answers whether it was a declaration.
-fn undo(stacks: &mut Vec<Items<u32>>, log: &mut Items<Step>) -> bool
+fn undo(stacks: &mut Vec<Items<usize>>, log: &mut Items<Step>) -> bool
     requires { IsStacked stacks.old.items log.old }
     ensures stacked { IsStacked stacks.new.items log.new }
     ensures names { length stacks.new.items ≡ length stacks.old.items }
@@ -75,8 +75,17 @@ impl Table {
         })
     }
 
+    /// Has one more name, which nothing declares.
+    pub fn grow(&mut self, alloc: Global) -> Result<(), AllocError>
+        ensures ok { OnOk result (self.new ≡ record { names = self.old.names + 1; scopes = self.old.scopes }) }
+        ensures err { OnErr result (self.new ≡ self.old) }
+    {
+        self.stacks.push(Items::new(alloc))?;
+        Ok(())
+    }
+
     /// What the name stands for: its newest declaration in the innermost scope that has one.
-    pub fn find(&self, name: usize) -> Option<u32>
+    pub fn find(&self, name: usize) -> Option<usize>
         requires { name < self.now.names }
         ensures { result ≡ found name self.now.scopes }
     {
@@ -93,7 +102,7 @@ impl Table {
     }
 
     /// Declares a name in the innermost scope, which is opened if there is none.
-    pub fn declare(&mut self, name: usize, declaration: u32) -> Result<(), AllocError>
+    pub fn declare(&mut self, name: usize, declaration: usize) -> Result<(), AllocError>
         requires { name < self.old.names }
         ensures ok { OnOk result (self.new ≡ record { names = self.old.names; scopes = with_entry (record { name = name; declaration = declaration }) self.old.scopes }) }
         ensures err { OnErr result (self.new ≡ self.old) }

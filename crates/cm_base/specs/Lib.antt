@@ -1,3 +1,4 @@
+pub mod Answers
 pub mod HostEnds
 pub mod Parts
 pub mod Players

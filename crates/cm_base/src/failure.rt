@@ -1,8 +1,12 @@
+ghost use Rattle.std.specs.Prelude.{◌≡◌};
+ghost use Rattle.cm_base.specs.Answers.{refusal};
+ghost use Rattle.cm_base.specs.declared.failure.Fail.TheVariants.{Refused as IsRefused};
+
 use crate::cause::Cause;
 use crate::name::Name;
 use crate::place::Place;
 use sqlite_items::Items;
-use std::alloc::{AllocError, AllocFailed};
+use std::alloc::{AllocError, AllocFailed, Global};
 use thiserror::Error;
 
 /// Why a patch is refused, and where. `cycle` has the paths of the leaves of a cycle, each before the
@@ -37,6 +41,19 @@ pub enum Fail {
     Refused(Refused),
     #[error("out of memory")]
     NoMemory,
+}
+
+impl Fail {
+    /// The refusal of a patch for this cause at this place, without a cycle.
+    pub fn refused(alloc: Global, cause: Cause, place: Place) -> Fail
+        ensures { result ≡ IsRefused (refusal cause place) }
+    {
+        Fail::Refused(Refused {
+            cause,
+            place,
+            cycle: Items::new(alloc),
+        })
+    }
 }
 
 impl From<NoMemory> for Fail {

@@ -15,10 +15,10 @@ use Rattle.cm_tree.specs.Pieces.{Text}
 use Rattle.cm_tree.specs.Spans.{AreSpans, AreSpansFrom}
 use Rattle.cm_tree.specs.Tokens.{IsTokens}
 use Rattle.cm_lexer.specs.Answer as lexer
-use Rattle.cm_parse_expr.specs.Answer as expr
 use Rattle.cm_parser.specs.Answer.{IsFileRefusal}
 use Rattle.cm_front.specs.declared.names.Through.{Through}
-use Rattle.cm_front.specs.Answer.{IfRefused, IsOkUnlessMemory, IsLexing, IsParsing, IsUncovered, IsRefusal, Parsing, Uncovered}
+use Rattle.cm_base.specs.Answers.{IfRefused, IsOkUnlessMemory}
+use Rattle.cm_front.specs.Answer.{IsLexing, IsParsing, IsUncovered, IsRefusal, Parsing, Uncovered}
 use Rattle.cm_front.specs.Phases.{AreTokensFrom, AreTokens, HaveLexFaultFrom, AreFiles, HaveFault, bytes_in}
 use Rattle.cm_front.specs.Spans.{HaveSpans, AreFew}
 
@@ -104,17 +104,17 @@ lexed_only texts i found all past to h =
 
 -- a file was refused
 refused_by : (texts rest : List Text) (number : ℕ) (found : List Tokens) (text : Text) (e : Fail) → LexedTo texts (text ∷ rest) number found
-    → lexer.IfRefused {X = Tokens} (Err e) (lexer.IsLexRefusal number text) → IfRefused {X = List Tokens} (Err e) (IsLexing texts)
+    → IfRefused {X = Tokens} (Err e) (lexer.IsLexRefusal number text) → IfRefused {X = List Tokens} (Err e) (IsLexing texts)
 refused_by texts rest number found text (fail.Refused refused) to h = record { fault = to.fault refused.cause refused.place (inl h.fault); cycle = h.cycle }
 refused_by texts rest number found text fail.NoMemory to h = tt
 
 pub lexed_refused : (texts : List Text) (i : ℕ) (found : List Tokens) (item text : Text) (e : Fail) → i < length texts → item ≡ get_or texts i item → text ≡ item
-    → lexer.IfRefused {X = Tokens} (Err e) (lexer.IsLexRefusal (i + 1) text) → LexedTo texts (drop i texts) (i + 1) found → IfRefused {X = List Tokens} (Err e) (IsLexing texts)
+    → IfRefused {X = Tokens} (Err e) (lexer.IsLexRefusal (i + 1) text) → LexedTo texts (drop i texts) (i + 1) found → IfRefused {X = List Tokens} (Err e) (IsLexing texts)
 lexed_refused texts i found item text e within is same h to = refused_by texts (drop (i + 1) texts) (i + 1) found text e (at_file texts i found item text within is same to) h
 
 -- and then the files have no tokens
 stopped_by : (P : List Tokens → Type 0) (texts rest : List Text) (number : ℕ) (found all : List Tokens) (text : Text) (e : Fail) → LexedTo texts (text ∷ rest) number found
-    → ((tokens : Tokens) → IsTokens number text tokens → lexer.IsOkUnlessMemory {X = Tokens} (Err e) (λ other. other ≡ tokens)) → AreTokens texts all → IsOkUnlessMemory {X = List Tokens} (Err e) P
+    → ((tokens : Tokens) → IsTokens number text tokens → IsOkUnlessMemory {X = Tokens} (Err e) (λ other. other ≡ tokens)) → AreTokens texts all → IsOkUnlessMemory {X = List Tokens} (Err e) P
 stopped_by P texts rest number found all text (fail.Refused refused) to only h =
     let old = to.split all h in
     let first = first_tokens number text rest old.0 old.2 in
@@ -122,7 +122,7 @@ stopped_by P texts rest number found all text (fail.Refused refused) to only h =
 stopped_by P texts rest number found all text fail.NoMemory to only h = tt
 
 pub lexed_stop : (P : List Tokens → Type 0) (texts : List Text) (i : ℕ) (found all : List Tokens) (item text : Text) (e : Fail) → i < length texts → item ≡ get_or texts i item → text ≡ item
-    → ((tokens : Tokens) → IsTokens (i + 1) text tokens → lexer.IsOkUnlessMemory {X = Tokens} (Err e) (λ other. other ≡ tokens)) → LexedTo texts (drop i texts) (i + 1) found → AreTokens texts all
+    → ((tokens : Tokens) → IsTokens (i + 1) text tokens → IsOkUnlessMemory {X = Tokens} (Err e) (λ other. other ≡ tokens)) → LexedTo texts (drop i texts) (i + 1) found → AreTokens texts all
     → IsOkUnlessMemory {X = List Tokens} (Err e) P
 lexed_stop P texts i found all item text e within is same only to h = stopped_by P texts (drop (i + 1) texts) (i + 1) found all text e (at_file texts i found item text within is same to) only h
 
@@ -204,16 +204,16 @@ parsed_only all i found files past to h =
     sym (old.1 ∙ (ap (λ (z : List File). found ++ z) (no_files old.0 old.2) ∙ append-nil found))
 
 parse_refused_by : (all rest : List Tokens) (found : List File) (tokens : Tokens) (e : Fail) → ParsedTo all (tokens ∷ rest) found
-    → expr.IfRefused {X = File} (Err e) (IsFileRefusal tokens.list tokens.last) → IfRefused {X = List File} (Err e) (IsParsing all)
+    → IfRefused {X = File} (Err e) (IsFileRefusal tokens.list tokens.last) → IfRefused {X = List File} (Err e) (IsParsing all)
 parse_refused_by all rest found tokens (fail.Refused refused) to h = record { cause = h.cause; fault = to.fault refused.place (inl h.fault); cycle = h.cycle }
 parse_refused_by all rest found tokens fail.NoMemory to h = tt
 
 pub parsed_refused : (all : List Tokens) (i : ℕ) (found : List File) (tokens : Tokens) (e : Fail) → i < length all → tokens ≡ get_or all i tokens
-    → expr.IfRefused {X = File} (Err e) (IsFileRefusal tokens.list tokens.last) → ParsedTo all (drop i all) found → IfRefused {X = List File} (Err e) (IsParsing all)
+    → IfRefused {X = File} (Err e) (IsFileRefusal tokens.list tokens.last) → ParsedTo all (drop i all) found → IfRefused {X = List File} (Err e) (IsParsing all)
 parsed_refused all i found tokens e within is h to = parse_refused_by all (drop (i + 1) all) found tokens e (at_tokens all i found tokens within is to) h
 
 parse_stopped_by : (P : List File → Type 0) (all rest : List Tokens) (found files : List File) (tokens : Tokens) (e : Fail) → ParsedTo all (tokens ∷ rest) found
-    → ((file : File) → IsFile 256 tokens.list file → expr.IsOkUnlessMemory {X = File} (Err e) (λ other. other ≡ file)) → AreFiles all files → IsOkUnlessMemory {X = List File} (Err e) P
+    → ((file : File) → IsFile 256 tokens.list file → IsOkUnlessMemory {X = File} (Err e) (λ other. other ≡ file)) → AreFiles all files → IsOkUnlessMemory {X = List File} (Err e) P
 parse_stopped_by P all rest found files tokens (fail.Refused refused) to only h =
     let old = to.split files h in
     let first = first_file tokens rest old.0 old.2 in
@@ -221,7 +221,7 @@ parse_stopped_by P all rest found files tokens (fail.Refused refused) to only h 
 parse_stopped_by P all rest found files tokens fail.NoMemory to only h = tt
 
 pub parsed_stop : (P : List File → Type 0) (all : List Tokens) (i : ℕ) (found files : List File) (tokens : Tokens) (e : Fail) → i < length all → tokens ≡ get_or all i tokens
-    → ((file : File) → IsFile 256 tokens.list file → expr.IsOkUnlessMemory {X = File} (Err e) (λ other. other ≡ file)) → ParsedTo all (drop i all) found → AreFiles all files → IsOkUnlessMemory {X = List File} (Err e) P
+    → ((file : File) → IsFile 256 tokens.list file → IsOkUnlessMemory {X = File} (Err e) (λ other. other ≡ file)) → ParsedTo all (drop i all) found → AreFiles all files → IsOkUnlessMemory {X = List File} (Err e) P
 parsed_stop P all i found files tokens e within is only to h = parse_stopped_by P all (drop (i + 1) all) found files tokens e (at_tokens all i found tokens within is to) only h
 
 -- the first of the files has few tokens

@@ -1,9 +1,7 @@
 -- What `front` answers where it gives no names.
-use Rattle.std.specs.Prelude.{◌≡◌, List, [], Result, Ok, Err}
-use Rattle.cm_base.specs.declared.cause.Cause.{Cause}
+use Rattle.std.specs.Prelude.{◌≡◌, List, []}
+use Rattle.cm_base.specs.Answers.{refusal}
 use Rattle.cm_base.specs.declared.cause.Cause.TheVariants.{Grammar, NotYet}
-use Rattle.cm_base.specs.declared.failure.Fail.{Fail}
-use Rattle.cm_base.specs.declared.failure.Fail.TheVariants as fail
 use Rattle.cm_base.specs.declared.failure.Refused.{Refused}
 use Rattle.cm_base.specs.declared.place.Place.{Place}
 use Rattle.cm_tree.specs.declared.file.File.{File}
@@ -11,10 +9,6 @@ use Rattle.cm_tree.specs.declared.tokens.Tokens.{Tokens}
 use Rattle.cm_tree.specs.Pieces.{Text}
 use Rattle.cm_front.specs.Form.{HaveForm}
 use Rattle.cm_front.specs.Phases.{HaveLexFault, AreTokens, HaveFault, AreTrees}
-
--- a refusal with this cause at this place, without a cycle
-abbrev pub refusal : Cause → Place → Refused
-refusal cause place = record { cause = cause; place = place; cycle = [] }
 
 -- the first place of the first file
 abbrev pub first_place : Place
@@ -42,15 +36,3 @@ pub data IsRefusal (texts : List Text) (refused : Refused) : Type 0 where
   Lexing : IsLexing texts refused → IsRefusal texts refused
   Parsing : (all : List Tokens) → AreTokens texts all → IsParsing all refused → IsRefusal texts refused
   Uncovered : (files : List File) → AreTrees texts files → IsUncovered files refused → IsRefusal texts refused
-
--- a fact for a refusal
-abbrev pub IfRefused : {X : Type 0} → Result X Fail → (Refused → Type 0) → Type 0
-IfRefused (Ok x) P = Unit {0}
-IfRefused (Err (fail.Refused refused)) P = P refused
-IfRefused (Err fail.NoMemory) P = Unit {0}
-
--- a value and a fact for it, or want of memory
-abbrev pub IsOkUnlessMemory : {X : Type 0} → Result X Fail → (X → Type 0) → Type 0
-IsOkUnlessMemory (Ok x) P = P x
-IsOkUnlessMemory (Err (fail.Refused refused)) P = ⊥
-IsOkUnlessMemory (Err fail.NoMemory) P = Unit {0}

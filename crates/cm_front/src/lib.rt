@@ -6,9 +6,10 @@
 #![tactic(auto)]
 
 ghost use Rattle.std.specs.Prelude.{◌≡◌, ◌≢◌, ◌≤◌, ◌<◌, ◌^◌, ℕ, List, length, IfOk, MatchResult};
-ghost use Rattle.cm_base.specs.declared.failure.Fail.TheVariants.{NoMemory as LacksMemory};
+ghost use Rattle.cm_base.specs.declared.failure.Fail.TheVariants.{NoMemory as LacksMemory, Refused as IsRefused};
 ghost use Rattle.cm_base.specs.declared.cause.Cause.TheVariants.{NotYet};
-ghost use Rattle.cm_front.specs.Answer.{IfRefused, IsRefusal, IsUncovered, refusal, first_place};
+ghost use Rattle.cm_base.specs.Answers.{IfRefused, refusal};
+ghost use Rattle.cm_front.specs.Answer.{IsRefusal, IsUncovered, first_place};
 ghost use Rattle.cm_front.specs.Form.{HaveForm};
 ghost use Rattle.cm_front.specs.Phases.{IsForm, bytes_in};
 
@@ -16,7 +17,7 @@ mod form;
 mod names;
 mod phases;
 
-use cm_base::{Bytes, Cause, Fail, Items, Name, NoMemory, Place, Refused};
+use cm_base::{Bytes, Cause, Fail, Items, Name, NoMemory, Place};
 use cm_tree::File;
 use form::{Names, find};
 pub use names::Through;
@@ -37,18 +38,15 @@ fn owned(alloc: Global, names: &Names<'_>) -> Result<Through, NoMemory>
     })
 }
 
-fn not_yet(alloc: Global) -> Refused
-    ensures { result ≡ refusal NotYet first_place }
+fn not_yet(alloc: Global) -> Fail
+    ensures { result ≡ IsRefused (refusal NotYet first_place) }
 {
-    Refused {
-        cause: Cause::NotYet,
-        place: Place {
-            file: 1,
-            line: 1,
-            column: 1,
-        },
-        cycle: Items::new(alloc),
-    }
+    let first = Place {
+        file: 1,
+        line: 1,
+        column: 1,
+    };
+    Fail::refused(alloc, Cause::NotYet, first)
 }
 
 /// The names of a patch whose trees are of the form.
@@ -60,7 +58,7 @@ fn through(alloc: Global, files: &[File]) -> Result<Through, Fail>
 {
     match find(files) {
         Some(names) => Ok(owned(alloc, &names)?),
-        None => Err(Fail::Refused(not_yet(alloc))),
+        None => Err(not_yet(alloc)),
     }
 }
 

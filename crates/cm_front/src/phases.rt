@@ -3,7 +3,8 @@
 ghost use Rattle.std.specs.Prelude.{◌≡◌, ◌<◌, ◌^◌, List, length, All, IfOk};
 ghost use Rattle.cm_tree.specs.declared.file.File.{File as TheFile};
 ghost use Rattle.cm_tree.specs.declared.tokens.Tokens.{Tokens};
-ghost use Rattle.cm_front.specs.Answer.{IfRefused, IsOkUnlessMemory, IsLexing, IsParsing};
+ghost use Rattle.cm_base.specs.Answers.{IfRefused, IsOkUnlessMemory};
+ghost use Rattle.cm_front.specs.Answer.{IsLexing, IsParsing};
 ghost use Rattle.cm_front.specs.Phases.{AreTokens, AreFiles, bytes_in};
 ghost use Rattle.cm_front.specs.Spans.{HaveSpans, AreFew};
 

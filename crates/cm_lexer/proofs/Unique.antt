@@ -11,7 +11,8 @@ use Rattle.cm_tree.specs.declared.token.Token.{Token as Lexeme}
 use Rattle.cm_tree.specs.declared.tokens.Tokens.{Tokens}
 use Rattle.cm_tree.specs.Pieces.{Text, Piece, Gap, Token, Fault, IsLongest}
 use Rattle.cm_tree.specs.Tokens.{Part, IsSound, Cuts, tokens_of, IsTokens, IsFirstFault, IsLexFault, faulty, ill_formed}
-use Rattle.cm_lexer.specs.Answer.{IfRefused, IsLexRefusal, IsOkUnlessMemory, HasNoFault}
+use Rattle.cm_base.specs.Answers.{IfRefused, IsOkUnlessMemory}
+use Rattle.cm_lexer.specs.Answer.{IsLexRefusal, HasNoFault}
 use Rattle.cm_lexer.proofs.Longest.{piece_some, same_piece}
 
 empty_front : (piece : Piece) (front rest : Text) → IsLongest piece front rest → [] ≡ front ++ rest → ⊥

@@ -1,26 +1,16 @@
 ghost use Rattle.std.specs.Prelude.{◌≡◌, [], ◌<◌, ◌+◌, ◌≤◌, ◌^◌, length, fold, take, IfOk};
 ghost use Rattle.std.specs.Str.{IsUtf8};
-ghost use Rattle.cm_base.specs.declared.failure.Fail.TheVariants.{Refused as IsRefused};
 ghost use Rattle.cm_tree.specs.Spans.{AreSpans};
 ghost use Rattle.cm_tree.specs.Tokens.{IsTokens, IsLexFault};
-ghost use Rattle.cm_lexer.specs.Answer.{IfRefused, IsLexRefusal, IsOkUnlessMemory, HasNoFault};
+ghost use Rattle.cm_base.specs.Answers.{IfRefused, IsOkUnlessMemory};
+ghost use Rattle.cm_lexer.specs.Answer.{IsLexRefusal, HasNoFault};
 ghost use Rattle.cm_lexer.specs.Moving.{moved};
 
 use crate::pen::Pen;
 use crate::piece::{Piece, scan};
-use cm_base::{Cause, Fail, Items, Place, Refused};
+use cm_base::{Cause, Fail, Items};
 use cm_tree::{Token, Tokens};
 use std::alloc::Global;
-
-fn refusal(alloc: Global, cause: Cause, place: Place) -> Fail
-    ensures { result ≡ IsRefused (record { cause = cause; place = place; cycle = [] }) }
-{
-    Fail::Refused(Refused {
-        cause,
-        place,
-        cycle: Items::new(alloc),
-    })
-}
 
 /// The tokens of a text that is UTF-8.
 fn cut(alloc: Global, file: u32, bytes: &[u8]) -> Result<Tokens, Fail>
@@ -46,7 +36,7 @@ fn cut(alloc: Global, file: u32, bytes: &[u8]) -> Result<Tokens, Fail>
             }
             Piece::Fault(cause, at) => {
                 let (before, _after) = rest.split_at(at);
-                return Err(refusal(alloc, cause, pen.past(before).place));
+                return Err(Fail::refused(alloc, cause, pen.past(before).place));
             }
         };
         let (front, others) = rest.split_at(len);
@@ -75,7 +65,7 @@ pub fn lex(alloc: Global, file: u32, bytes: &[u8]) -> Result<Tokens, Fail>
         Ok(_) => cut(alloc, file, bytes),
         Err(error) => {
             let (valid, _invalid) = bytes.split_at(error.valid_up_to());
-            Err(refusal(alloc, Cause::BadByte, Pen::new(file).past(valid).place))
+            Err(Fail::refused(alloc, Cause::BadByte, Pen::new(file).past(valid).place))
         }
     }
 }

@@ -1,39 +1,18 @@
 ghost use Rattle.std.specs.Prelude.{◌≡◌, [], ◌≤◌, ◌<◌, ◌^◌, ℕ, length, drop, IfOk};
-ghost use Rattle.cm_base.specs.declared.failure.Fail.TheVariants.{Refused as IsRefused};
-ghost use Rattle.cm_base.specs.declared.cause.Cause.TheVariants.{Grammar};
 ghost use Rattle.cm_tree.specs.declared.expr.Expr.{Expr as Tree};
-ghost use Rattle.cm_tree.specs.Faults.{place_of};
 ghost use Rattle.token_reader.specs.Parsers.{Reads};
 ghost use Rattle.cm_parse_expr.specs.Reading as spec;
-ghost use Rattle.cm_parse_expr.specs.Answer.{IfRefused, IsOkUnlessMemory, IsExprAt, IsExprRefusal};
+ghost use Rattle.cm_base.specs.Answers.{IfRefused, IsOkUnlessMemory};
+ghost use Rattle.cm_parse_expr.specs.Answer.{IsExprAt, IsExprRefusal};
 
 use crate::grammar::{args, expr};
-use cm_base::{Cause, Fail, Items, Place, Refused};
+use cm_base::{Cause, Fail, Items};
 use cm_tree::{Expr, Tokens};
 use std::alloc::Global;
 use token_reader::{Cursor, Stop};
 
 /// How high a tree may be: docs/LANGUAGE.md, "Limits".
 const MAX_HEIGHT: u16 = 256;
-
-fn refusal(alloc: Global, place: Place) -> Fail
-    ensures { result ≡ IsRefused (record { cause = Grammar; place = place; cycle = [] }) }
-{
-    Fail::Refused(Refused {
-        cause: Cause::Grammar,
-        place,
-        cycle: Items::new(alloc),
-    })
-}
-
-fn place_at(tokens: &Cursor<'_>, last: Place) -> Place
-    ensures { result ≡ place_of last tokens.now }
-{
-    match tokens.peek() {
-        Some(token) => token.place,
-        None => last,
-    }
-}
 
 /// An expression that is no higher than `room`: docs/LANGUAGE.md, "Expressions".
 pub fn read_expr(tokens: &mut Cursor<'_>, room: u16) -> Result<Expr, Stop>
@@ -67,7 +46,7 @@ pub fn parse_expr(alloc: Global, tokens: &Tokens, from: u32) -> Result<(Expr, u3
     let mut cursor = Cursor::new(alloc, rest);
     match read_expr(&mut cursor, MAX_HEIGHT) {
         Ok(found) => Ok((found, (list.len() - cursor.left()) as u32)),
-        Err(Stop::Here) => Err(refusal(alloc, place_at(&cursor, tokens.last))),
+        Err(Stop::Here) => Err(Fail::refused(alloc, Cause::Grammar, cursor.place_or(tokens.last))),
         Err(Stop::NoMemory) => Err(Fail::NoMemory),
     }
 }

@@ -8,7 +8,7 @@ use Rattle.cm_tree.specs.declared.token.Token.{Token}
 use Rattle.cm_tree.specs.declared.decl.Decl.{Decl}
 use Rattle.cm_tree.specs.declared.file.File.{File}
 use Rattle.cm_tree.specs.Faults.{IsFile, IsFault, place_of}
-use Rattle.cm_parse_expr.specs.Answer.{IfRefused, IsOkUnlessMemory}
+use Rattle.cm_base.specs.Answers.{IfRefused, IsOkUnlessMemory}
 use Rattle.file_grammar.specs.Files.{decls}
 use Rattle.token_reader.specs.Parsers.{Outcome}
 use Rattle.cm_parser.specs.Answer.{IsRefusal, IsFileRefusal}

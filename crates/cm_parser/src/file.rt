@@ -1,14 +1,12 @@
 ghost use Rattle.std.specs.Prelude.{◌≡◌, [], ◌<◌, ◌^◌, length, Ok, IfOk};
-ghost use Rattle.cm_base.specs.declared.failure.Fail.TheVariants.{Refused as IsRefused};
-ghost use Rattle.cm_base.specs.declared.cause.Cause.TheVariants.{Grammar};
-ghost use Rattle.cm_tree.specs.Faults.{IsFile, place_of};
+ghost use Rattle.cm_tree.specs.Faults.{IsFile};
 ghost use Rattle.cm_tree.specs.declared.file.File.{File as TheFile};
 ghost use Rattle.file_grammar.specs.Files.{decls};
-ghost use Rattle.cm_parse_expr.specs.Answer.{IfRefused, IsOkUnlessMemory};
+ghost use Rattle.cm_base.specs.Answers.{IfRefused, IsOkUnlessMemory};
 ghost use Rattle.cm_parser.specs.Answer.{IsRefusal, IsFileRefusal};
 
 use crate::decls::decls;
-use cm_base::{Cause, Fail, Items, Place, Refused};
+use cm_base::{Cause, Fail};
 use cm_tree::{File, Tokens};
 use file_grammar::reads_files;
 use std::alloc::Global;
@@ -16,25 +14,6 @@ use token_reader::{Cursor, Stop};
 
 /// How high a tree may be: docs/LANGUAGE.md, "Limits".
 const MAX_HEIGHT: u16 = 256;
-
-fn refusal(alloc: Global, place: Place) -> Fail
-    ensures { result ≡ IsRefused (record { cause = Grammar; place = place; cycle = [] }) }
-{
-    Fail::Refused(Refused {
-        cause: Cause::Grammar,
-        place,
-        cycle: Items::new(alloc),
-    })
-}
-
-fn place_at(tokens: &Cursor<'_>, last: Place) -> Place
-    ensures { result ≡ place_of last tokens.now }
-{
-    match tokens.peek() {
-        Some(token) => token.place,
-        None => last,
-    }
-}
 
 /// The file as it is read from left to right, or where the reading stops.
 fn reading(alloc: Global, tokens: &Tokens) -> Result<File, Fail>
@@ -46,7 +25,7 @@ fn reading(alloc: Global, tokens: &Tokens) -> Result<File, Fail>
     let mut cursor = Cursor::new(alloc, tokens.list.as_slice());
     match decls(&mut cursor, MAX_HEIGHT) {
         Ok(decls) => Ok(File { decls }),
-        Err(Stop::Here) => Err(refusal(alloc, place_at(&cursor, tokens.last))),
+        Err(Stop::Here) => Err(Fail::refused(alloc, Cause::Grammar, cursor.place_or(tokens.last))),
         Err(Stop::NoMemory) => Err(Fail::NoMemory),
     }
 }

@@ -4,14 +4,9 @@ pub mod Faults
 pub mod Heights
 pub mod Levels
 pub mod Lists
-pub mod Patch
 pub mod Pieces
-pub mod Resume
-pub mod Run
-pub mod Sizes
 pub mod Spans
 pub mod Spelling
 pub mod StmtHeights
 pub mod StmtSpelling
-pub mod Through
 pub mod Tokens

@@ -1,6 +1,6 @@
-//! What a patch is made of and what it means. The tokens and trees of its files are plain types here. In `specs/`
-//! stand what a patch is, how a suspended `main` goes on (`Resume`) and what a patch does over a whole run (`Run`),
-//! turn by turn and frame by frame. The headline compares it with the host's run of the compiled module.
+//! What the files of a patch are made of: tokens and syntax trees, plain types with a variant for each alternative.
+//! `specs/` says which tokens a text is cut into, which tokens spell which tree, and where a file has a fault of the
+//! grammar. What a tree means stands in `cm_meaning`.
 #![tactic(auto)]
 
 mod decl;

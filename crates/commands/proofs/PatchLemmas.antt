@@ -8,7 +8,8 @@ use Rattle.std.proofs.Math.Seq.{drop-cons}
 use Rattle.cm_base.specs.declared.failure.Fail.{Fail}
 use Rattle.cm_base.specs.declared.failure.Fail.TheVariants as fail
 use Rattle.cm_front.specs.declared.names.Through.{Through}
-use Rattle.cm_front.specs.Answer.{IfRefused, IsRefusal}
+use Rattle.cm_base.specs.Answers.{IfRefused}
+use Rattle.cm_front.specs.Answer.{IsRefusal}
 use Rattle.cm_front.specs.Phases.{bytes_in}
 use Rattle.cm_io.specs.Files.{Files}
 use Rattle.cm_io.specs.Seen.{Seen, OnlyRead}

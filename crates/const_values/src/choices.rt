@@ -7,7 +7,6 @@ ghost use Rattle.cm_types.specs.Meant.{meant_type, meant_value, meant_valued};
 ghost use Rattle.const_values.specs.Answers.{Gives};
 ghost use Rattle.const_values.specs.Operations.{choice_faults, arm_value};
 
-use crate::refusal::refused;
 use cm_base::{Cause, Fail, Place};
 use cm_const::converted;
 use cm_types::Valued;
@@ -50,10 +49,10 @@ pub fn choice(
         return Ok(arm(first, one, other));
     }
     let Some(kind) = joined(&one.ty, &other.ty) else {
-        return Err(refused(alloc, Cause::TypeMismatch, at));
+        return Err(Fail::refused(alloc, Cause::TypeMismatch, at));
     };
     match arm(first, one, other).value.number() {
         Some(number) => Ok(converted(kind, number)),
-        None => Err(refused(alloc, Cause::TypeMismatch, at)),
+        None => Err(Fail::refused(alloc, Cause::TypeMismatch, at)),
     }
 }

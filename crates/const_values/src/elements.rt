@@ -6,7 +6,6 @@ ghost use Rattle.cm_types.specs.Meant.{meant_type, meant_value, meant_valued};
 ghost use Rattle.const_values.specs.Answers.{Gives};
 ghost use Rattle.const_values.specs.Elements as elements;
 
-use crate::refusal::refused;
 use cm_base::{Cause, Fail, Place};
 use cm_number::floor_mod;
 use cm_types::{CmType, Value, Valued};
@@ -82,13 +81,13 @@ pub fn element(
     ensures sound { IfOk result (λ found. IsSound (meant_valued found)) }
 {
     let Some(ty) = element_type(&one.ty) else {
-        return Err(refused(alloc, Cause::NotIndexable, at));
+        return Err(Fail::refused(alloc, Cause::NotIndexable, at));
     };
     if !is_number(&index.ty) {
-        return Err(refused(alloc, Cause::TypeMismatch, place));
+        return Err(Fail::refused(alloc, Cause::TypeMismatch, place));
     }
     let Some(value) = indexed(one, index) else {
-        return Err(refused(alloc, Cause::IndexRange, place));
+        return Err(Fail::refused(alloc, Cause::IndexRange, place));
     };
     Ok(Valued {
         ty: ty.copy(alloc)?,

@@ -15,7 +15,6 @@ use crate::members::field;
 use crate::names::{ConstNames, Env, value_named};
 use crate::operations::{operation, operation_alone};
 use crate::places::{base_place, place};
-use crate::refusal::refused;
 use cm_base::{Cause, Fail, Scalar};
 use cm_const::converted;
 use cm_tree::{Expr, Path};
@@ -62,7 +61,7 @@ fn named<N: ConstNames>(alloc: Global, path: &Path, env: &Env, names: &N) -> Res
             ty: found.ty.copy(alloc)?,
             value: found.value.copy(alloc)?,
         }),
-        None => Err(refused(alloc, Cause::NotConstant, path.place)),
+        None => Err(Fail::refused(alloc, Cause::NotConstant, path.place)),
     }
 }
 
@@ -98,14 +97,14 @@ fn evaluate<N: ConstNames>(alloc: Global, expr: &Expr, env: &Env, names: &N) -> 
         Expr::Choice(at, test, left, right) => {
             let tested = evaluate(alloc, test.get(), env, names)?;
             if !is_condition(&tested.ty) {
-                return Err(refused(alloc, Cause::TypeMismatch, place(test.get())));
+                return Err(Fail::refused(alloc, Cause::TypeMismatch, place(test.get())));
             }
             let one = evaluate(alloc, left.get(), env, names)?;
             let other = evaluate(alloc, right.get(), env, names)?;
             choice(alloc, *at, truth(&tested), one, other)
         }
-        Expr::Call(path, _args) => Err(refused(alloc, Cause::NotYet, path.place)),
-        Expr::Construct(base, _sizes, _args) => Err(refused(
+        Expr::Call(path, _args) => Err(Fail::refused(alloc, Cause::NotYet, path.place)),
+        Expr::Construct(base, _sizes, _args) => Err(Fail::refused(
             alloc,
             Cause::NotYet,
             base_place(base),
@@ -129,7 +128,7 @@ pub fn constant<N: ConstNames>(
     ensures sound { IfOk result (λ found. IsSound (meant_valued found)) }
 {
     if !is_constant(expr, env, names) {
-        return Err(refused(alloc, Cause::NotConstant, place(expr)));
+        return Err(Fail::refused(alloc, Cause::NotConstant, place(expr)));
     }
     evaluate(alloc, expr, env, names)
 }

@@ -14,7 +14,6 @@ mod members;
 mod names;
 mod operations;
 mod places;
-mod refusal;
 #[cfg(test)]
 mod tests;
 

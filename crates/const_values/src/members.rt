@@ -6,7 +6,6 @@ ghost use Rattle.cm_types.specs.Meant.{meant_type, meant_fields, meant_values, m
 ghost use Rattle.const_values.specs.Answers.{Gives};
 ghost use Rattle.const_values.specs.Members.{member_faults, lent_valued};
 
-use crate::refusal::refused;
 use cm_base::{Cause, Fail};
 use cm_tree::Word;
 use cm_types::{CmType, FieldType, Value, Valued};
@@ -70,7 +69,7 @@ pub fn field(alloc: Global, word: &Word, one: &Valued) -> Result<Valued, Fail>
     ensures sound { IfOk result (λ found. IsSound (meant_valued found)) }
 {
     let Some(found) = field_of(word.text.as_bytes(), one) else {
-        return Err(refused(alloc, Cause::NoMember, word.place));
+        return Err(Fail::refused(alloc, Cause::NoMember, word.place));
     };
     Ok(Valued {
         ty: found.ty.copy(alloc)?,

@@ -5,7 +5,6 @@ ghost use Rattle.cm_types.specs.Meant.{meant_type, meant_valued};
 ghost use Rattle.const_values.specs.Answers.{Gives};
 ghost use Rattle.const_values.specs.Operations.{operation_faults, alone_faults};
 
-use crate::refusal::refused;
 use cm_base::{Cause, Fail, Place};
 use cm_const::{operate, operate_alone};
 use cm_tree::{Binary, Unary};
@@ -28,11 +27,11 @@ pub fn operation(
     ensures sound { IfOk result (λ found. IsSound (meant_valued found)) }
 {
     let Some(_kind) = operated(op, &one.ty, &other.ty) else {
-        return Err(refused(alloc, Cause::TypeMismatch, at));
+        return Err(Fail::refused(alloc, Cause::TypeMismatch, at));
     };
     match operate(op, one, other) {
         Some(found) => Ok(found),
-        None => Err(refused(alloc, Cause::DivideByZero, divisor)),
+        None => Err(Fail::refused(alloc, Cause::DivideByZero, divisor)),
     }
 }
 
@@ -44,6 +43,6 @@ pub fn operation_alone(alloc: Global, at: Place, op: Unary, one: &Valued) -> Res
 {
     match operate_alone(op, one) {
         Some(found) => Ok(found),
-        None => Err(refused(alloc, Cause::TypeMismatch, at)),
+        None => Err(Fail::refused(alloc, Cause::TypeMismatch, at)),
     }
 }

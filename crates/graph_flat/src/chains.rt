@@ -10,7 +10,6 @@ ghost use Rattle.graph_flat.specs.Sound.{IsSoundLink};
 use crate::ends::{owners, starts_of};
 use crate::finding::route_paths;
 use crate::paths::Path;
-use crate::refusal::refused;
 use cm_base::limits::CHAINS;
 use cm_base::{Cause, EndId, Fail, Flow, LeafId, NodeId, Shape};
 use cm_core::{Chain, Connection, Point, Program};
@@ -129,7 +128,7 @@ pub fn direct_chains(
 {
     let starts = starts_of(alloc, program, leaves)?;
     if starts.len() > CHAINS as usize {
-        return Err(refused(alloc, Cause::TooManyChains, program.place));
+        return Err(Fail::refused(alloc, Cause::TooManyChains, program.place));
     }
     let mut chains = Vec::with_capacity(alloc, starts.len())?;
     for start in starts.as_slice() {

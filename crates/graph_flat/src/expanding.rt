@@ -6,7 +6,6 @@ ghost use Rattle.graph_flat.specs.Refusal.{IsRefusal};
 ghost use Rattle.graph_flat.specs.Sound.{IsSoundLink};
 
 use crate::links::fault_of;
-use crate::refusal::refused;
 use crate::sides::{end_id, group_at, is_spread, picked};
 use cm_base::limits::CONNECTIONS;
 use cm_base::{Cause, EndId, Fail};
@@ -140,7 +139,7 @@ fn add_link(
     ensures refused { IfErr result (IsRefusal program.now) }
 {
     match fault_of(program, link) {
-        Some(fault) => Err(refused(alloc, fault.cause, fault.place)),
+        Some(fault) => Err(Fail::refused(alloc, fault.cause, fault.place)),
         None => {
             expand(alloc, found, program, link)?;
             Ok(())
@@ -160,7 +159,7 @@ pub fn connections(alloc: Global, program: &Program) -> Result<Vec<Connection>, 
     for link in program.links.as_slice() {
         add_link(alloc, &mut found, program, link)?;
         if found.len() > CONNECTIONS as usize {
-            return Err(refused(alloc, Cause::TooManyConnections, program.place));
+            return Err(Fail::refused(alloc, Cause::TooManyConnections, program.place));
         }
     }
     Ok(found)

@@ -11,7 +11,6 @@ ghost use Rattle.graph_flat.specs.Sound.{IsSoundLink};
 use crate::ends::{starts_of, targets_of};
 use crate::paths::Path;
 use crate::preparing::prepare;
-use crate::refusal::refused;
 use crate::searching::{route_count, search};
 use crate::sharing::shared_value;
 use cm_base::limits::CHAINS;
@@ -40,12 +39,12 @@ pub fn route_paths(
     let wires = prepare(alloc, program, connections, targets)?;
     let starts = starts_of(alloc, program, leaves)?;
     if route_count(&wires, &starts) > CHAINS as u64 {
-        return Err(refused(alloc, Cause::TooManyChains, program.place));
+        return Err(Fail::refused(alloc, Cause::TooManyChains, program.place));
     }
     let paths = search(alloc, &wires, &starts)?;
     let shared = shared_value(alloc, program, &paths)?;
     match shared {
-        Some(place) => Err(refused(alloc, Cause::ValueSources, place)),
+        Some(place) => Err(Fail::refused(alloc, Cause::ValueSources, place)),
         None => Ok(paths),
     }
 }

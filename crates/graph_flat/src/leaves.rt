@@ -3,7 +3,6 @@ ghost use Rattle.cm_core.specs.Consistent.{IsConsistent};
 ghost use Rattle.cm_core.specs.Tree.{leaf_nodes};
 ghost use Rattle.graph_flat.specs.Refusal.{IsRefusal};
 
-use crate::refusal::refused;
 use cm_base::limits::LEAVES;
 use cm_base::{Cause, Fail, NodeId};
 use cm_core::{Body, Program};
@@ -34,7 +33,7 @@ pub fn leaf_nodes(alloc: Global, program: &Program) -> Result<Vec<NodeId>, Fail>
         match &program.node(id).body {
             Body::Leaf(_) => {
                 if found.len() >= LEAVES as usize {
-                    return Err(refused(alloc, Cause::TooManyLeaves, program.place));
+                    return Err(Fail::refused(alloc, Cause::TooManyLeaves, program.place));
                 }
                 found.push(id)?;
             }

@@ -18,7 +18,6 @@ mod links;
 mod looping;
 mod paths;
 mod preparing;
-mod refusal;
 mod searching;
 mod sharing;
 mod sides;

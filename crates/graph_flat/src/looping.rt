@@ -5,7 +5,6 @@ ghost use Rattle.graph_search.specs.Orders.{IsFault};
 ghost use Rattle.graph_flat.specs.Edges.{edge_of as the_edge_of, leads, IsPlaceBetween};
 ghost use Rattle.graph_flat.specs.Refusal.{IsRefusal};
 
-use crate::refusal::refused;
 use cm_base::{Cause, Fail, Place};
 use cm_core::{Connection, Program};
 use graph_search::{Edge, SearchFail, cycle_leads_back};
@@ -67,7 +66,7 @@ pub fn loop_refusal(
         SearchFail::Cycle(cycle) => {
             let ends = cycle.as_slice();
             let place = place_between(connections, ends[ends.len() - 1], ends[0]);
-            refused(alloc, Cause::WireLoop, place)
+            Fail::refused(alloc, Cause::WireLoop, place)
         }
         SearchFail::NoMemory => Fail::NoMemory,
     }

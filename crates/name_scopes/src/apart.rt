@@ -6,7 +6,7 @@ ghost use Rattle.cm_meaning.specs.Scopes.{unit_names};
 ghost use Rattle.name_scopes.specs.Apart.{KeepsApart, word_itself, init_words, var_words, end_name_words, end_words, node_words, shared_words, param_words, member_words, unit_words};
 
 use crate::names::Names;
-use cm_base::{Cause, Fail, Items, Refused};
+use cm_base::{Cause, Fail};
 use cm_tree::{End, EndName, Init, Member, Node, Param, Shared, UnitDecl, Var, Word};
 use std::alloc::Global;
 
@@ -17,11 +17,7 @@ fn keep_word<'a>(alloc: Global, names: &mut Names<'a>, word: &'a Word) -> Result
     if names.insert(word.text.as_str())? {
         return Ok(());
     }
-    Err(Fail::Refused(Refused {
-        cause: Cause::DuplicateName,
-        place: word.place,
-        cycle: Items::new(alloc),
-    }))
+    Err(Fail::refused(alloc, Cause::DuplicateName, word.place))
 }
 
 fn keep_words<'a>(alloc: Global, names: &mut Names<'a>, words: &'a [Word]) -> Result<(), Fail>

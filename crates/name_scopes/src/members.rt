@@ -7,7 +7,7 @@ ghost use Rattle.name_scopes.specs.Members.{Adds, IsBelow, IsNumberOf, declared_
 
 use crate::named::{Member, Named};
 use crate::spaces::Spaces;
-use cm_base::{Cause, Fail, Items, Place, Refused};
+use cm_base::{Cause, Fail, Items, Place};
 use indexmap::IndexMap;
 use std::alloc::{AllocError, Global};
 use std::marker::Model;
@@ -73,16 +73,6 @@ fn differ(a: &Named<'_>, b: &Named<'_>) -> bool
     !(is_namespace(a) && is_namespace(b))
 }
 
-fn refused(alloc: Global, place: Place) -> Fail
-    ensures { result ≡ Fail.Refused (record { cause = Cause.DuplicateName; place = place; cycle = [] }) }
-{
-    Fail::Refused(Refused {
-        cause: Cause::DuplicateName,
-        place,
-        cycle: Items::new(alloc),
-    })
-}
-
 impl<'a> Members<'a> {
     /// The whole patch, with no declarations.
     pub fn new(alloc: Global) -> Members<'a>
@@ -141,7 +131,7 @@ impl<'a> Members<'a> {
         // No two namespaces are one.
         let _count = self.spaces.count();
         if self.clashes(&member) {
-            return Err(refused(alloc, member.place));
+            return Err(Fail::refused(alloc, Cause::DuplicateName, member.place));
         }
         self.push(member)?;
         Ok(())

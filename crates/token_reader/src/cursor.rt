@@ -1,5 +1,6 @@
 ghost use Rattle.std.specs.Prelude.{◌≡◌, length};
 ghost use Rattle.std.specs.Option.{option_copied};
+ghost use Rattle.cm_tree.specs.Faults.{place_of};
 ghost use Rattle.token_reader.specs.declared.cursor.Stop.TheVariants.{NoMemory};
 ghost use Rattle.token_reader.specs.Parsers as spec;
 ghost use Rattle.token_reader.specs.Parsers.{Reads};
@@ -104,6 +105,16 @@ impl<'a> Cursor<'a> {
         ensures looks { spec.look self.now ≡ Ok (option_copied result, self.now) }
     {
         self.rest.first()
+    }
+
+    /// The place of the next token; behind the last one, this place.
+    pub fn place_or(&self, last: Place) -> Place
+        ensures { result ≡ place_of last self.now }
+    {
+        match self.peek() {
+            Some(token) => token.place,
+            None => last,
+        }
     }
 
     /// Goes past the next token, if there is one.

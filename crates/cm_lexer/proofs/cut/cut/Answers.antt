@@ -8,7 +8,8 @@ use Rattle.cm_tree.specs.Tokens.{IsLexFault, with_token, bytes_of}
 use Rattle.cm_lexer.specs.declared.pen.Pen.{Pen}
 use Rattle.cm_lexer.specs.declared.piece.Piece.{Piece as Answered}
 use Rattle.cm_lexer.specs.declared.piece.Piece.TheVariants as piece
-use Rattle.cm_lexer.specs.Answer.{IfRefused, IsLexRefusal}
+use Rattle.cm_base.specs.Answers.{IfRefused}
+use Rattle.cm_lexer.specs.Answer.{IsLexRefusal}
 use Rattle.cm_lexer.specs.Found.{Gives, FitsIn}
 use Rattle.cm_lexer.specs.Moving.{moved}
 use Rattle.cm_lexer.specs.Scan.{found, scan}

@@ -38,4 +38,4 @@ returns-in-Err-Here-clause-refused c =
     let refuses : expr 256 c.new-cursor.result ≡ Err c.read_expr.new.tokens = rw c.in-Err-Here.field-0-is at c.in-Err-Here.ensures in
     let fault : IsExprFault 256 (drop c.args.from c.args.tokens.now.list) c.args.tokens.now.last (place_of c.args.tokens.now.last c.read_expr.new.tokens) =
     refused 256 (drop c.args.from c.args.tokens.now.list) c.read_expr.new.tokens c.args.tokens.now.last (rw (← is) refuses) in
-    rw c.refusal.ensures (record { cause = refl; cycle = refl; fault = rw c.place_at.ensures fault })
+    rw c.refused.ensures (record { cause = refl; cycle = refl; fault = rw c.place_or.ensures fault })

@@ -34,7 +34,7 @@ returns-in-Fault-clause-refused c =
     let is : (scan rest).piece ≡ Fault cause at = subst (λ (p : Answered). Gives p (scan rest)) c.in-Fault.is c.in_ok-len.ensures.value in
     let place : c.past.result.place ≡ fold moved c.loop-rest.pen.place (take at rest) = c.past.ensures.place ∙ ap (fold moved c.loop-rest.pen.place) c.split_at.ensures.front in
     let fault = reached_fault c.args.file c.args.bytes.now rest c.loop-rest.list c.loop-rest.pen cause at c.past.result.place c.loop-rest.invariant.reached some is place in
-    rw c.refusal.ensures (record { fault = fault; cycle = refl })
+    rw c.refused.ensures (record { fault = fault; cycle = refl })
 
 pub loop-rest-preserved : goal.loop-rest-preserved
 loop-rest-preserved c =

@@ -30,4 +30,4 @@ returns-in-Err-clause-refused c =
     ∙ moved_all c.args.file [] (take n bytes) in
     let valid : IsValidUpTo bytes n = subst (λ (m : ℕ). IsValidUpTo bytes m) (sym c.valid_up_to.ensures) c.in-Err.ensures.cases.1 in
     let fault = subst (λ (p : Place). IsLexFault c.args.file bytes BadByte p) (sym place) (ill_formed n valid) in
-    rw c.refusal.ensures (record { fault = fault; cycle = refl })
+    rw c.refused.ensures (record { fault = fault; cycle = refl })

@@ -1,4 +1,4 @@
-use Rattle.std.proofs.Common.{◌∙◌, ap, not, bytes_eq, refl}
+use Rattle.std.proofs.Common.{◌∙◌, [], ap, not, bytes_eq, refl}
 use Rattle.std.specs.List.{list_any}
 use Rattle.cm_base.specs.declared.cause.Cause.TheVariants as cause
 use Rattle.name_scopes.specs.Numbers.{added}
@@ -11,5 +11,5 @@ returns-then-branch c = keeps-new c.args.names.now c.insert.new.self c.args.word
     (c.in_ok-insert.ensures.names ∙ ap (added c.args.names.now) c.as_str.ensures)
 
 pub returns : goal.returns
-returns c = keeps-old c.args.names.now c.insert.new.self c.args.word.now c.in_ok-insert.field-0 (record { cause = cause.DuplicateName; place = c.args.word.now.place; cycle = c.new.result }) c.if-branch.false
-    (c.in_ok-insert.ensures.new ∙ ap (λ t. not (list_any (bytes_eq t) c.args.names.now)) c.as_str.ensures) refl
+returns c = rw c.refused.ensures (keeps-old c.args.names.now c.insert.new.self c.args.word.now c.in_ok-insert.field-0 (record { cause = cause.DuplicateName; place = c.args.word.now.place; cycle = [] }) c.if-branch.false
+    (c.in_ok-insert.ensures.new ∙ ap (λ t. not (list_any (bytes_eq t) c.args.names.now)) c.as_str.ensures) refl)

@@ -1,14 +1,12 @@
 -- The code of a function: how deep sequences stand, and up to its own `end`.
-use Rattle.std.proofs.Common.{◌≡◌, ℕ, zero, suc, ◌+◌, ◌≤◌, ◌<◌, Bool, true, false, cond, eqb, leb, ltb, List, [], ◌∷◌, ◌++◌, length, Option, Some, None, Result, Ok, refl, sym, ap, subst, ◌∙◌, arith, ◌⊎◌, inl, inr}
+use Rattle.std.proofs.Common.{◌≡◌, ℕ, zero, suc, ◌+◌, ◌≤◌, ◌<◌, Bool, true, false, cond, eqb, ltb, List, [], ◌∷◌, ◌++◌, length, Option, Some, None, Result, Ok, refl, sym, ap, subst, ◌∙◌, arith, ◌⊎◌, inl, inr}
 use Rattle.std.specs.Prelude.{◌&&◌}
 use Rattle.std.specs.Option.{option_and_then}
-use Rattle.std.proofs.Math.Nat.{eq-or-lt_of_le}
-use Rattle.std.proofs.lemmas.Bool.{leb-true, leb-false, ltb-true, lt-ltb, ne_eqb, cases_Bool}
+use Rattle.std.proofs.lemmas.Bool.{ne_eqb, cases_Bool}
 use Rattle.std.proofs.lemmas.List.{append-nil, length-append}
+use Rattle.std.proofs.lemmas.Bool.Decides.{nat_tests}
 use Rattle.wasm_tree.specs.declared.failure.ModuleRule.{ModuleRule}
 use Rattle.wasm_tree.specs.declared.failure.ModuleRule.TheVariants as rule
-use Rattle.wasm_tree.specs.declared.module.FuncBody.{FuncBody}
-use Rattle.wasm_tree.specs.declared.module.LocalRun.{LocalRun}
 use Rattle.wasm_tree.specs.declared.instr.Instr.{Instr}
 use Rattle.wasm_tree.specs.declared.instr.Instr.TheVariants as instr
 use Rattle.wasm_tree.specs.Opcode.{opcode_of}
@@ -22,32 +20,19 @@ use Rattle.wasm_reader.proofs.Ends.{Ends, with_value, with_fault, step, by_test,
 use Rattle.wasm_reader.proofs.Readers.{Taken, Broken, ReadEnds, Reads, broken-as, assoc, behind, begins_with, regrouped, ends-as, ends-behind, field, last, from_first, fills, both_true}
 use Rattle.wasm_reader.proofs.Parts.{filled-reads}
 use Rattle.wasm_reader.proofs.LocalLaws.{local_runs-reads}
-use Rattle.wasm_reader.proofs.Opcodes.{sample_like, sample-of}
-use Rattle.wasm_reader.proofs.CodeLaws.{instruction-reads}
+use Rattle.wasm_reader.proofs.Instructions.{sample_like, sample-of, instruction-reads}
 
 -- ---- how deep sequences stand
-
-three : (b : ℕ) → 0x02 ≤ b → b ≤ 0x04 → (b ≡ 0x02) ⊎ ((b ≡ 0x03) ⊎ (b ≡ 0x04))
-three b low high =
-    elim (eq-or-lt_of_le low) [
-      | inl e ↦ inl (sym e)
-      | inr above ↦ elim (eq-or-lt_of_le high) [ inl e ↦ inr (inr e) | inr below ↦ inr (inl (omega arith)) ]
-    ]
 
 too_deep : (arms : List Bool) (bytes : List ℕ) → (ltb most_open (length arms) && opens bytes) ≡ true → IsTooDeep arms bytes
 unfolding opens
 too_deep arms [] e = absurd (cc (both_true (ltb most_open (length arms)) false e).1)
-too_deep arms (b ∷ bytes) e =
-    let t = both_true (ltb most_open (length arms)) (leb 0x02 b && leb b 0x04) e in
-    let u = both_true (leb 0x02 b) (leb b 0x04) t.1 in
-    (ltb-true _ _ t.0, three b (leb-true _ _ u.0) (leb-true _ _ u.1))
+too_deep arms (b ∷ bytes) e = grind (arith, nat_tests)
 
 is_deep : (arms : List Bool) (bytes : List ℕ) → IsTooDeep arms bytes → (ltb most_open (length arms) && opens bytes) ≡ true
 unfolding opens
 is_deep arms [] d = absurd d
-is_deep arms (b ∷ bytes) (le, inl e) = rw (lt-ltb most_open (length arms) le, e) refl
-is_deep arms (b ∷ bytes) (le, inr (inl e)) = rw (lt-ltb most_open (length arms) le, e) refl
-is_deep arms (b ∷ bytes) (le, inr (inr e)) = rw (lt-ltb most_open (length arms) le, e) refl
+is_deep arms (b ∷ bytes) d = grind (arith, nat_tests)
 
 room-ends : (arms : List Bool) (bytes : List ℕ) → Ends (λ _. IsTooDeep arms bytes → ⊥) (Broken (TooDeep arms) bytes) (room_at arms bytes)
 unfolding room_at
@@ -64,50 +49,31 @@ room-again arms bytes shallow =
 
 -- a sequence is opened inside as many as may be open, and only there
 opened-some : (arm a : Bool) (arms next : List Bool) → opened arm (a ∷ arms) ≡ Some next → length (a ∷ arms) ≤ most_open
-opened-some arm a arms next e = by (leb (length (a ∷ arms)) most_open) refl e where
-  by : (t : Bool) → leb (length (a ∷ arms)) most_open ≡ t → cond t (Some (arm ∷ (a ∷ arms))) None ≡ Some next → length (a ∷ arms) ≤ most_open
-  by true p e = leb-true _ _ p
-  by false p e = absurd cc
+opened-some arm a arms next e = grind (arith, nat_tests)
 
 opened-none : (arm a : Bool) (arms : List Bool) → opened arm (a ∷ arms) ≡ None → most_open < length (a ∷ arms)
-opened-none arm a arms e = by (leb (length (a ∷ arms)) most_open) refl e where
-  by : (t : Bool) → leb (length (a ∷ arms)) most_open ≡ t → cond t (Some (arm ∷ (a ∷ arms))) None ≡ None → most_open < length (a ∷ arms)
-  by true p e = absurd cc
-  by false p e = leb-false _ _ p
+opened-none arm a arms e = grind (arith, nat_tests)
 
-abbrev OpensSequence : Instr → Type 0
-OpensSequence (instr.Block t) = Unit {0}
-OpensSequence (instr.Loop t) = Unit {0}
-OpensSequence (instr.If t) = Unit {0}
-OpensSequence _ = ⊥
+-- the immediates of an instruction change nothing of what is open after it
+after_like : (a : Bool) (arms : List Bool) (i : Instr) → after_instruction (a ∷ arms) (sample_like i) ≡ after_instruction (a ∷ arms) i
+after_like a arms (instr.Block t) = refl
+after_like a arms i = refl
 
-opens-like : (i : Instr) → OpensSequence (sample_like i) → OpensSequence i
-opens-like (instr.Block t) h = tt
-opens-like (instr.Loop t) h = tt
-opens-like (instr.If t) h = tt
-opens-like i h = h
+after_sample : (a : Bool) (arms : List Bool) (i like : Instr) (b : ℕ) → sample_of b ≡ Some like → opcode_of i ≡ b → after_instruction (a ∷ arms) like ≡ after_instruction (a ∷ arms) i
+after_sample a arms i like b some is = cc (sample-of i, ap sample_of is, after_like a arms i)
 
-begun : (i like : Instr) (b : ℕ) → sample_of b ≡ Some like → opcode_of i ≡ b → like ≡ sample_like i
-begun i like b some is = cc (sample-of i, ap sample_of is)
-
-opens-by : (i : Instr) → (opcode_of i ≡ 0x02) ⊎ ((opcode_of i ≡ 0x03) ⊎ (opcode_of i ≡ 0x04)) → OpensSequence i
+opens_within : (a : Bool) (arms next : List Bool) (i : Instr) → (opcode_of i ≡ 0x02) ⊎ ((opcode_of i ≡ 0x03) ⊎ (opcode_of i ≡ 0x04)) → after_instruction (a ∷ arms) i ≡ Some next → length (a ∷ arms) ≤ most_open
 unfolding sample_of samples
-opens-by i (inl e) = opens-like i (subst OpensSequence (begun i (instr.Block None) 0x02 refl e) tt)
-opens-by i (inr (inl e)) = opens-like i (subst OpensSequence (begun i (instr.Loop None) 0x03 refl e) tt)
-opens-by i (inr (inr e)) = opens-like i (subst OpensSequence (begun i (instr.If None) 0x04 refl e) tt)
-
-opens_within : (a : Bool) (arms next : List Bool) (i : Instr) → OpensSequence i → after_instruction (a ∷ arms) i ≡ Some next → length (a ∷ arms) ≤ most_open
-opens_within a arms next (instr.Block t) opens e = opened-some false a arms next e
-opens_within a arms next (instr.Loop t) opens e = opened-some false a arms next e
-opens_within a arms next (instr.If t) opens e = opened-some true a arms next e
-opens_within a arms next i opens e = absurd opens
+opens_within a arms next i (inl is) e = opened-some false a arms next (after_sample a arms i (instr.Block None) 0x02 refl is ∙ e)
+opens_within a arms next i (inr (inl is)) e = opened-some false a arms next (after_sample a arms i (instr.Loop None) 0x03 refl is ∙ e)
+opens_within a arms next i (inr (inr is)) e = opened-some true a arms next (after_sample a arms i (instr.If None) 0x04 refl is ∙ e)
 
 -- where an instruction may stand, it opens no sequence too deep
 shallow-of : (arms next : List Bool) (i : Instr) (bytes back : List ℕ) → bytes ≡ opcode_of i ∷ back → after_instruction arms i ≡ Some next → IsTooDeep arms bytes → ⊥
 shallow-of [] next i bytes back w e deep = absurd cc
 shallow-of (a ∷ arms) next i bytes back w e deep =
     let d = subst (IsTooDeep (a ∷ arms)) w deep in
-    let within : length (a ∷ arms) ≤ most_open = opens_within a arms next i (opens-by i d.1) e in
+    let within : length (a ∷ arms) ≤ most_open = opens_within a arms next i d.1 e in
     absurd (omega (arith, d.0))
 
 -- only an `else` is stray where the sequences don't stand too deep
@@ -221,9 +187,7 @@ expression-reads = record {
 
 contents-reads : Reads BodyContents (InTurn NoLocalRuns LocalRuns (λ _. NoExpression)) body_at
 unfolding body_at
-contents-reads = from_first (field (λ b. b.locals) local_runs-reads (λ locals. last (λ b. b.code) (made locals) expression-reads (λ x. (tt, refl)) (λ x. refl) (λ c r. rw (← r.1) refl))) where
-  made : List LocalRun → List Instr → FuncBody
-  made locals code = record { locals = locals; code = code }
+contents-reads = from_first (field (λ b. b.locals) local_runs-reads (λ locals. last (λ b. b.code) (λ code. record { locals = locals; code = code }) expression-reads (λ x. (tt, refl)) (λ x. refl) (λ c r. rw (← r.1) refl)))
 
 pub body-reads : Reads Body NoBody (filled_at body_at)
 body-reads = filled-reads (fills contents-reads)

@@ -24,6 +24,16 @@ pub step : {A B : Type 0} {G : A → Type 0} {N : Fault → Type 0} {H : B → T
 step (Ok x) h bad good = good x (h.ok x refl)
 step (Err e) h bad good = with_fault e (bad e (h.err e refl))
 
+-- the same within a longer reading
+pub step_in : {A B C : Type 0} {G : A → Type 0} {N : Fault → Type 0} {H : C → Type 0} {M : Fault → Type 0} (r : Result A Fault) (f : A → Result B Fault) (g : B → Result C Fault) → Ends G N r → ((e : Fault) → N e → M e) → ((x : A) → G x → Ends H M (f x >>= g)) → Ends H M ((r >>= f) >>= g)
+step_in (Ok x) f g h bad good = good x (h.ok x refl)
+step_in (Err e) f g h bad good = with_fault e (bad e (h.err e refl))
+
+-- one step after another is a longer step
+pub regroup : {A B C : Type 0} (r : Result A Fault) (f : A → Result B Fault) (g : B → Result C Fault) → ((r >>= f) >>= g) ≡ (r >>= λ x. f x >>= g)
+regroup (Ok x) f g = refl
+regroup (Err e) f g = refl
+
 pub weaker : {A : Type 0} {G H : A → Type 0} {N M : Fault → Type 0} {r : Result A Fault} → Ends G N r → ((x : A) → G x → H x) → ((e : Fault) → N e → M e) → Ends H M r
 weaker h good bad = record { ok = λ x e. good x (h.ok x e); err = λ x e. bad x (h.err x e) }
 

@@ -11,7 +11,7 @@ use Rattle.wasm_reader.specs.Reading.{at, index_at, type_at, locals_at, runs_fro
 use Rattle.wasm_reader.proofs.Ends.{with_value, with_fault, step, by_test}
 use Rattle.wasm_reader.proofs.Readers.{Reads, ReadEnds, Taken, broken-as, assoc, behind, regrouped, ends-behind, then-reads, as-reads}
 use Rattle.wasm_reader.proofs.NumberLaws.{index-reads}
-use Rattle.wasm_reader.proofs.Choices.{type-reads}
+use Rattle.wasm_reader.proofs.Records.{type-reads}
 
 -- a run of locals that is within the limit, behind so many
 abbrev FewLocals : ℕ → LocalRun → List ℕ → Type 0

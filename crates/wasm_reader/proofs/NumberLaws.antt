@@ -64,10 +64,7 @@ number-again k start bits z (b ∷ c ∷ front) rest h =
     rw (le-ltb b 128 s.0, lt-ltb 7 bits s.2, lt-ltb b 256 s.1, number-again k start (bits - 7) s.3 (c ∷ front) rest s.5, s.4) refl
 
 number-reads : {A : Type 0} {last : ℕ → ℕ → Option A} {more : ℕ → A → A} {P : ℕ → A → List ℕ → Type 0} → Kind last more P → (bits : ℕ) → 0 < bits → Reads (P bits) (NoNumber (P bits)) (λ bytes. number_from last more (length bytes) bits bytes)
-number-reads {A} {last} {more} {P} k bits some = record {
-  ends = λ bytes. weaker (number-ends k (length bytes) bits bytes some) (λ y t. t) (unread bytes);
-  again = λ z front rest h. number-again k (length (front ++ rest)) bits z front rest h;
-} where
+number-reads {A} {last} {more} {P} k bits some = record { ends = λ bytes. weaker (number-ends k (length bytes) bits bytes some) (λ y t. t) (unread bytes); again = λ z front rest h. number-again k (length (front ++ rest)) bits z front rest h } where
   unread : (bytes : List ℕ) (x : Fault) → Unread last more P (length bytes) bits bytes x → Broken (NoNumber (P bits)) bytes x
   unread bytes x (inl (is, none)) = rw is (record { fails = inl (refl, refl, λ z extra front back w h. absurd (cc (none extra, ap (number_from last more (length bytes) bits) w ∙ number-again k (length bytes) bits z front back h))); within = omega arith })
   unread bytes x (inr h) = rw h.0 (record { fails = inr (refl, refl, h.1, h.2, h.3, h.4); within = omega arith })

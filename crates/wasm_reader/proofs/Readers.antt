@@ -2,7 +2,8 @@
 -- read again, whatever follows.
 use Rattle.std.proofs.Common.{◌≡◌, ℕ, zero, suc, ◌+◌, ◌-◌, ◌≤◌, ◌<◌, Bool, true, false, eqb, leb, cond, eq-eqb, List, [], ◌∷◌, ◌++◌, length, take, drop, Result, Ok, Err, refl, sym, ap, subst, ◌∙◌, append_assoc, arith, ◌⊎◌, inl, inr}
 use Rattle.std.specs.Prelude.{◌&&◌, min}
-use Rattle.std.proofs.lemmas.Bool.{eqb-true, eqb-false, ne_eqb, leb-true, leb-false, le-leb}
+use Rattle.std.proofs.lemmas.Bool.{eqb-true, eqb-false, ne_eqb, leb-true, le-leb}
+use Rattle.std.proofs.lemmas.Bool.Decides.{nat_tests}
 use Rattle.std.proofs.lemmas.List.{append-nil, nil_from_length, take_at, drop_at, take-append-drop, length-append, length-take}
 use Rattle.wasm_tree.specs.declared.failure.ModuleRule.{ModuleRule}
 use Rattle.wasm_tree.specs.declared.failure.ModuleRule.TheVariants as rule
@@ -33,13 +34,7 @@ pub record Reads {A : Type 0} (P : A → List ℕ → Type 0) (F : ModuleRule �
 -- ---- parts
 
 pub assoc : {P Q R : List ℕ → Type 0} {bytes : List ℕ} → Joined P (Joined Q R) bytes → Joined (Joined P Q) R bytes
-assoc j = let k = j.second in record {
-  front = j.front ++ k.front;
-  back = k.back;
-  whole = j.whole ∙ ap (λ (l : List ℕ). j.front ++ l) k.whole ∙ sym (append_assoc j.front k.front k.back);
-  first = record { front = j.front; back = k.front; whole = refl; first = j.first; second = k.first };
-  second = k.second;
-}
+assoc j = let k = j.second in record { front = j.front ++ k.front; back = k.back; whole = j.whole ∙ ap (λ (l : List ℕ). j.front ++ l) k.whole ∙ sym (append_assoc j.front k.front k.back); first = record { front = j.front; back = k.front; whole = refl; first = j.first; second = k.first }; second = k.second }
 
 -- another part behind the same one
 pub behind : {P Q R : List ℕ → Type 0} {bytes : List ℕ} → (j : Joined P Q bytes) → R j.back → Joined P R bytes
@@ -64,11 +59,7 @@ pub ends-behind : {A C : Type 0} {P : A → List ℕ → Type 0} {S : C → List
     → ReadEnds (λ c. Joined (P x) (S c)) (λ r left. Joined (P x) (G r left)) bytes r
 ends-behind {rest = rest} t h =
     weaker h
-    (λ y u. record {
-      front = t.front ++ u.front;
-      whole = t.whole ∙ ap (λ (l : List ℕ). t.front ++ l) u.whole ∙ sym (append_assoc t.front u.front y.1);
-      spelled = record { front = t.front; back = u.front; whole = refl; first = t.spelled; second = u.spelled };
-    })
+    (λ y u. record { front = t.front ++ u.front; whole = t.whole ∙ ap (λ (l : List ℕ). t.front ++ l) u.whole ∙ sym (append_assoc t.front u.front y.1); spelled = record { front = t.front; back = u.front; whole = refl; first = t.spelled; second = u.spelled } })
     (λ e b. record { fails = record { front = t.front; back = rest; whole = t.whole; first = t.spelled; second = b.fails }; within = omega (arith, b.within, ap length t.whole, length-append t.front rest) })
 
 abbrev pub Then : {A C : Type 0} → (A → List ℕ → Type 0) → (A → C → List ℕ → Type 0) → C → List ℕ → Type 0
@@ -119,10 +110,6 @@ pub ends-begun : {C : Type 0} {S : C → List ℕ → Type 0} {G : ModuleRule �
     → ReadEnds (λ c. Begins d (S c)) (λ r left. Begins d (G r left)) bytes r
 ends-begun {bytes = bytes} {rest = rest} d w is h = ends-behind {P = λ (x : ℕ) (l : List ℕ). l ≡ x ∷ []} {x = d} (record { front = d ∷ []; whole = w ∙ ap (λ (x : ℕ). x ∷ rest) is; spelled = refl }) h
 
-neither : {b d e : ℕ} → (b ≡ d → ⊥) → (b ≡ e → ⊥) → ((b ≡ d) ⊎ (b ≡ e)) → ⊥
-neither p q (inl h) = p h
-neither p q (inr h) = q h
-
 -- one of two bytes, and what is due behind it
 pub two-reads : {C : Type 0} {P Q : C → List ℕ → Type 0} {F G : ModuleRule → ℕ → List ℕ → Type 0} {f g : Reader C} (d e : ℕ) → (e ≡ d → ⊥) → Reads P F f → Reads Q G g
     → Reads (λ c bytes. Begins d (P c) bytes ⊎ Begins e (Q c) bytes) (λ r left bytes. OtherByte (λ b. (b ≡ d) ⊎ (b ≡ e)) r left bytes ⊎ (Begins d (F r left) bytes ⊎ Begins e (G r left) bytes))
@@ -133,7 +120,7 @@ two-reads {C} {P} {Q} {f = f} {g = g} d e apart rf rg = record {
       step (byte_at bytes) (byte-ends (λ b. (b ≡ d) ⊎ (b ≡ e)) bytes) (λ x b. broken-as b (λ h. inl h)) (λ y w.
       by_test (eqb y.0 d) (λ p. ends-as (ends-begun d w (eqb-true y.0 d p) (rf.ends y.1)) (λ c l h. inl h) (λ r left l h. inr (inl h))) (λ p.
       by_test (eqb y.0 e) (λ q. ends-as (ends-begun e w (eqb-true y.0 e q) (rg.ends y.1)) (λ c l h. inr h) (λ r left l h. inr (inr h))) (λ q.
-      with_fault (at rule.Opcode (length bytes)) (broken-as (other w (neither (eqb-false y.0 d p) (eqb-false y.0 e q))) (λ h. inl h)))));
+      with_fault (at rule.Opcode (length bytes)) (broken-as (other w (λ h. elim h [ inl is ↦ eqb-false y.0 d p is | inr is ↦ eqb-false y.0 e q is ])) (λ h. inl h)))));
   again = again;
 } where
   again : (c : C) (front rest : List ℕ) → Begins d (P c) front ⊎ Begins e (Q c) front → (byte_at (front ++ rest) >>= λ b. cond (eqb b.0 d) (f b.1) (cond (eqb b.0 e) (g b.1) (Err (at rule.Opcode (length (front ++ rest)))))) ≡ Ok (c, rest)
@@ -143,10 +130,7 @@ two-reads {C} {P} {Q} {f = f} {g = g} d e apart rf rg = record {
 -- a byte that is due, and what stands behind it
 pub begins-reads : {C : Type 0} {P : C → List ℕ → Type 0} {F : ModuleRule → ℕ → List ℕ → Type 0} {g : Reader C} (due : ℕ) → Reads P F g → Reads (λ c. Begins due (P c)) (Behind due F) (λ bytes. fixed_at due bytes >>= λ rest. g rest)
 unfolding fixed_at byte_at
-begins-reads due rg = record {
-  ends = λ bytes. step (fixed_at due bytes) (fixed bytes) (λ x b. broken-as b (λ h. inl h)) (λ rest w. ends-as (ends-begun due w refl (rg.ends rest)) (λ c l h. h) (λ r left l h. inr h));
-  again = λ c front rest h. rw (begins_with h, eq-eqb due due refl) (rg.again c h.back rest h.second);
-} where
+begins-reads due rg = record { ends = λ bytes. step (fixed_at due bytes) (fixed bytes) (λ x b. broken-as b (λ h. inl h)) (λ rest w. ends-as (ends-begun due w refl (rg.ends rest)) (λ c l h. h) (λ r left l h. inr h)); again = λ c front rest h. rw (begins_with h, eq-eqb due due refl) (rg.again c h.back rest h.second) } where
   fixed : (bytes : List ℕ) → Ends (λ rest. bytes ≡ due ∷ rest) (Broken (OtherByte (λ b. b ≡ due)) bytes) (fixed_at due bytes)
   fixed bytes =
       step (byte_at bytes) (byte-ends (λ b. b ≡ due) bytes) (λ x b. b)
@@ -205,10 +189,6 @@ pub both_true : (a b : Bool) → (a && b) ≡ true → (a ≡ true) × (b ≡ tr
 both_true true b e = (refl, e)
 both_true false b e = absurd cc
 
-and_false : (a b : Bool) → (a && b) ≡ false → (a ≡ false) ⊎ (b ≡ false)
-and_false true b e = inr e
-and_false false b e = inl refl
-
 moved-left : (inner contents whole : ℕ) → inner ≤ contents → contents ≤ whole → (whole - (contents - inner)) + contents ≡ inner + whole
 moved-left inner contents whole a b = omega arith
 
@@ -232,10 +212,8 @@ full-ends {P = P} size rest (Ok y) h =
     (λ p.
     let parts : length (take size rest) ≡ length t.front + length y.1 = ap length t.whole ∙ length-append t.front y.1 in
     let sum : (length rest - (min size (length rest) - length y.1)) + length t.front ≡ length rest = omega arith in
-    with_fault _ (record { fails = inr (y.0, t.front, y.1, t.whole, t.spelled, refl, sum, which (and_false _ _ p)); within = omega arith })) where
-      which : (eqb (length y.1) 0 ≡ false) ⊎ (leb size (length rest) ≡ false) → (0 < length y.1) ⊎ (length rest < size)
-      which (inl e) = inl (omega (arith, eqb-false (length y.1) 0 e))
-      which (inr e) = inr (leb-false size (length rest) e)
+    let short : (0 < length y.1) ⊎ (length rest < size) = grind (arith, nat_tests) in
+    with_fault _ (record { fails = inr (y.0, t.front, y.1, t.whole, t.spelled, refl, sum, short); within = omega arith }))
 
 -- a size, and what fills it
 pub sized-reads : {A : Type 0} {P : A → List ℕ → Type 0} {F : ModuleRule → ℕ → List ℕ → Type 0} {f : Reader A} {index : Reader ℕ} → Reads Index NoIndex index → Fills P F f
@@ -244,10 +222,7 @@ sized-reads {A} {P} {F} {f} ri rf =
     as-reads (then-reads ri (λ whole size. full size)) (λ x bytes h. (h.1.back, record { front = h.1.front; back = h.1.back; whole = h.1.whole; first = rw h.1.second.0 h.1.first; second = refl }, h.1.second.1))
     (λ x bytes h. (length h.0, behind h.1 (rw h.1.second (refl, h.2)))) (λ r left bytes h. h) where
       full : (size : ℕ) → Reads (λ x bytes. (length bytes ≡ size) × P x bytes) (Unfilled P F size) (λ rest. full_at size rest (f (take size rest)))
-      full size = record {
-        ends = λ rest. full-ends size rest (f (take size rest)) (rf.ends (take size rest));
-        again = λ x front rest h. rw (take_at front rest size h.0, rf.again x front h.1, le-leb size (length (front ++ rest)) (omega (arith, h.0, length-append front rest)), drop_at front rest size h.0) refl;
-      }
+      full size = record { ends = λ rest. full-ends size rest (f (take size rest)) (rf.ends (take size rest)); again = λ x front rest h. rw (take_at front rest size h.0, rf.again x front h.1, le-leb size (length (front ++ rest)) (omega (arith, h.0, length-append front rest)), drop_at front rest size h.0) refl }
 
 -- ---- records
 

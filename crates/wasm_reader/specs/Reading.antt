@@ -387,54 +387,53 @@ unfoldable pub header_at : List ℕ → List ℕ → Result (List ℕ) Fault
 header_at [] bytes = Ok bytes
 header_at (due ∷ dues) bytes = header_byte_at due bytes >>= λ rest. header_at dues rest
 
--- what the sections up to the memories list
-pub record FirstParts : Type 0 where
-  pub types : List FuncType
-  pub imports : List Import
-  pub functions : List ℕ
-  pub memory : List Limits
+-- What stands behind a section: what it lists, and all custom sections, those found before first, and those named
+-- `cmajor` last.
+abbrev pub Others : Type 0 → Type 0
+Others B = Found → List ℕ → Result (B × List Custom) Fault
 
--- what the sections from the globals on list
-pub record LastParts : Type 0 where
-  pub globals : List GlobalVar
-  pub exports : List ExportEntry
-  pub codes : List FuncBody
-  pub segments : List Segment
+-- custom sections, and nothing behind them
+unfoldable pub last_at : Others (Unit {0})
+last_at found bytes = do
+  last ← customs_at (length bytes) found bytes
+  if length last.1 == 0 then Ok (tt, last.0.others ++ last.0.named) else Err (at rule.Section (length last.1))
 
-unfoldable pub head_at : Found → Reader (FirstParts × Found)
-head_at found bytes = do
-  types ← section_at function_type_at 1 found bytes
-  imports ← section_at import_at 2 types.0.1 types.1
-  functions ← section_at index_at 3 imports.0.1 imports.1
-  memory ← section_at memory_at 5 functions.0.1 functions.1
-  Ok ((record { types = types.0.0; imports = imports.0.0; functions = functions.0.0; memory = memory.0.0 }, memory.0.1), memory.1)
+-- what a section lists, with what the others behind it list
+abbrev pub with_others : {A B : Type 0} → Others B → (List A × Found) × List ℕ → Result ((List A × B) × List Custom) Fault
+with_others others x = others x.0.1 x.1 >>= λ y. Ok ((x.0.0, y.0), y.1)
 
-unfoldable pub tail_at : Found → Reader (LastParts × Found)
-tail_at found bytes = do
-  globals ← section_at global_at 6 found bytes
-  exports ← section_at export_at 7 globals.0.1 globals.1
-  codes ← section_at (filled_at body_at) 10 exports.0.1 exports.1
-  segments ← section_at segment_at 11 codes.0.1 codes.1
-  Ok ((record { globals = globals.0.0; exports = exports.0.0; codes = codes.0.0; segments = segments.0.0 }, segments.0.1), segments.1)
+-- the section with this id, and the others behind it
+unfoldable pub section_then : {A B : Type 0} → Reader A → ℕ → Others B → Others (List A × B)
+section_then f id others found bytes = section_at f id found bytes >>= λ x. with_others others x
 
-abbrev pub whole_of : FirstParts → LastParts → Found → Module
-whole_of head tail found = record {
-  types = head.types;
-  imports = head.imports;
-  functions = head.functions;
-  memory = head.memory;
-  globals = tail.globals;
-  exports = tail.exports;
-  codes = tail.codes;
-  segments = tail.segments;
-  customs = found.others ++ found.named;
+-- what each section lists, in the order of their ids
+abbrev pub Parts : Type 0
+Parts = List FuncType × (List Import × (List ℕ × (List Limits × (List GlobalVar × (List ExportEntry × (List FuncBody × (List Segment × Unit {0})))))))
+
+unfoldable pub sections_at : Others Parts
+sections_at =
+    section_then function_type_at 1 (section_then import_at 2 (section_then index_at 3 (section_then memory_at 5
+    (section_then global_at 6 (section_then export_at 7 (section_then (filled_at body_at) 10 (section_then segment_at 11 last_at)))))))
+
+abbrev pub whole_of : Parts → List Custom → Module
+whole_of p customs = record {
+  types = p.0;
+  imports = p.1.0;
+  functions = p.1.1.0;
+  memory = p.1.1.1.0;
+  globals = p.1.1.1.1.0;
+  exports = p.1.1.1.1.1.0;
+  codes = p.1.1.1.1.1.1.0;
+  segments = p.1.1.1.1.1.1.1.0;
+  customs = customs;
 }
+
+-- a module has as many functions as codes
+abbrev pub counted : Module → Result Module Fault
+counted m = if length m.functions == length m.codes then Ok m else Err (at rule.Size 0)
 
 unfoldable pub module_at : List ℕ → Result Module Fault
 module_at bytes = do
   rest ← header_at header bytes
-  head ← head_at (record { others = []; named = [] }) rest
-  tail ← tail_at head.0.1 head.1
-  last ← customs_at (length tail.1) tail.0.1 tail.1
-  if length last.1 == 0 then (if length head.0.0.functions == length tail.0.0.codes then Ok (whole_of head.0.0 tail.0.0 last.0) else Err (at rule.Size 0))
-      else Err (at rule.Section (length last.1))
+  parts ← sections_at (record { others = []; named = [] }) rest
+  counted (whole_of parts.0 parts.1)

@@ -46,7 +46,7 @@ fn sorted(found: Found) -> Result<Customs, ReadFail>
     Ok(customs)
 }
 
-#[tactic(auto, unfolding(crate::specs::Reading::module_at, crate::specs::Reading::head_at, crate::specs::Reading::tail_at))]
+#[tactic(auto, unfolding(crate::specs::Reading::module_at, crate::specs::Reading::sections_at, crate::specs::Reading::section_then, crate::specs::Reading::last_at))]
 fn module(alloc: Global, bytes: &[u8]) -> Result<Module, ReadFail>
     ensures { Gives (λ m. m) result (module_at bytes.now) }
 {

@@ -1,6 +1,6 @@
 use Rattle.std.proofs.Common.{◌∙◌, sym}
 use Rattle.std.proofs.lemmas.Bool.{lt-ltb}
-use Rattle.wasm_reader.proofs.Numbers.{fits_seven}
+use Rattle.wasm_reader.proofs.Steps.{fits_seven}
 use Rattle.wasm_reader.proofs.cursor.fits.Goals as goal
 
 pub returns-then-bits-gt6 : goal.returns-then-bits-gt6

@@ -1,5 +1,5 @@
 use Rattle.std.proofs.Common.{◌≡◌, arith}
-use Rattle.wasm_reader.proofs.Names.{block_type-none}
+use Rattle.wasm_reader.proofs.Steps.{block_type-none}
 use Rattle.wasm_reader.proofs.instr.block_type.Goals as goal
 
 pub returns-in-None : goal.returns-in-None

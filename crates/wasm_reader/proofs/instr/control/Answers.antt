@@ -1,5 +1,5 @@
 use Rattle.std.proofs.Common.{arith}
-use Rattle.wasm_reader.proofs.Opcodes.{behind-none, not_control}
+use Rattle.wasm_reader.proofs.Instructions.{behind-none, not_control}
 use Rattle.wasm_reader.proofs.instr.control.Goals as goal
 
 pub returns-in_default : goal.returns-in_default

@@ -1,6 +1,6 @@
 use Rattle.std.proofs.Common.{length}
 use Rattle.wasm_reader.specs.Reading.{instruction_at}
-use Rattle.wasm_reader.proofs.Opcodes.{behind-alone}
+use Rattle.wasm_reader.proofs.Instructions.{behind-alone}
 use Rattle.wasm_reader.proofs.instr.instr.Goals as goal
 
 pub returns-in-Some : goal.returns-in-Some

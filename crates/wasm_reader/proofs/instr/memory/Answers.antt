@@ -2,7 +2,7 @@ use Rattle.std.proofs.Common.{arith, refl}
 use Rattle.std.proofs.lemmas.Result.{err_from_is_err_and}
 use Rattle.wasm_reader.specs.Reading.{place_at}
 use Rattle.wasm_reader.proofs.Steps.{fails-first}
-use Rattle.wasm_reader.proofs.Opcodes.{behind-load, behind-store, behind-none, not_memory}
+use Rattle.wasm_reader.proofs.Instructions.{behind-load, behind-store, behind-none, not_memory}
 use Rattle.wasm_reader.proofs.instr.memory.Goals as goal
 
 pub returns-in_err-place : goal.returns-in_err-place

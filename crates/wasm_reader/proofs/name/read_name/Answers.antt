@@ -1,5 +1,5 @@
 use Rattle.std.proofs.Common.{◌∙◌}
-use Rattle.wasm_reader.proofs.Names.{name-gives, name-ill}
+use Rattle.wasm_reader.proofs.Steps.{name-gives, name-ill}
 use Rattle.wasm_reader.proofs.name.read_name.Goals as goal
 
 pub returns-in_ok-from_str-in-Ok : goal.returns-in_ok-from_str-in-Ok

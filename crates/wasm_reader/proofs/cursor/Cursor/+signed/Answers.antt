@@ -2,8 +2,7 @@ use Rattle.std.proofs.Common.{arith, ◌-◌, refl}
 use Rattle.std.proofs.lemmas.Result.{err_from_is_err_and}
 use Rattle.std.proofs.lemmas.Int.{ints}
 use Rattle.wasm_reader.specs.Reading.{last_signed, more_signed, signed_from}
-use Rattle.wasm_reader.proofs.Steps.{fails-first}
-use Rattle.wasm_reader.proofs.Numbers.{number-no_byte, number-last, number-long, number-more, gives-last, value_is, half, word}
+use Rattle.wasm_reader.proofs.Steps.{fails-first, number-no_byte, number-last, number-long, number-more, gives-last, value_is, half, word}
 use Rattle.wasm_reader.proofs.cursor.Cursor.+signed.Goals as goal
 
 pub returns-in_err-low-clause-value : goal.returns-in_err-low-clause-value

@@ -1,8 +1,7 @@
 use Rattle.std.proofs.Common.{arith, ◌-◌, refl}
 use Rattle.std.proofs.lemmas.Result.{err_from_is_err_and}
 use Rattle.wasm_reader.specs.Reading.{last_unsigned, more_unsigned, unsigned_from}
-use Rattle.wasm_reader.proofs.Steps.{fails-first}
-use Rattle.wasm_reader.proofs.Numbers.{number-no_byte, number-last, number-long, number-more, gives-last, high_small, seven, word}
+use Rattle.wasm_reader.proofs.Steps.{fails-first, number-no_byte, number-last, number-long, number-more, gives-last, high_small, seven, word}
 use Rattle.wasm_reader.proofs.cursor.Cursor.+unsigned.Goals as goal
 
 pub returns-in_err-low-clause-value : goal.returns-in_err-low-clause-value

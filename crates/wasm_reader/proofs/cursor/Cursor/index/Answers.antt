@@ -1,4 +1,4 @@
-use Rattle.wasm_reader.proofs.Numbers.{index-short}
+use Rattle.wasm_reader.proofs.Steps.{index-short}
 use Rattle.wasm_reader.proofs.cursor.Cursor.index.Goals as goal
 
 pub returns-in-Some : goal.returns-in-Some

@@ -1,6 +1,6 @@
 use Rattle.std.proofs.Common.{arith}
 use Rattle.std.proofs.lemmas.Int.{ints}
-use Rattle.wasm_reader.proofs.Numbers.{signed-short}
+use Rattle.wasm_reader.proofs.Steps.{signed-short}
 use Rattle.wasm_reader.proofs.cursor.Cursor.signed64.Goals as goal
 
 pub returns-in-Some : goal.returns-in-Some

@@ -1,4 +1,4 @@
-use Rattle.wasm_reader.proofs.Names.{type-none}
+use Rattle.wasm_reader.proofs.Steps.{type-none}
 use Rattle.wasm_reader.proofs.entries.ValTypeDecode.read.Goals as goal
 
 pub returns-in-None : goal.returns-in-None

@@ -1,5 +1,5 @@
 #!/usr/bin/env bash
-# The deepest trees of every kind are read and dropped within 4 MiB of stack, and deeper ones are refused: a nest of each
+# The deepest trees of twelve kinds are read and dropped within 2 MiB of stack, and deeper ones are refused: a nest of each
 # kind is made one level deeper at a time past the one at which it is refused.
 set -u
 CDPATH='' cd -- "$(dirname -- "$0")/.." || exit 2
@@ -33,10 +33,10 @@ nest() {
     esac
 }
 
-# refused CAUSE: the cause of the refusal of the file, with 4 MiB of stack.
+# cause: the cause of the refusal of the file, with 2 MiB of stack.
 cause() {
     (
-        ulimit -S -s 4096
+        ulimit -S -s 2048
         "$built" compile "$dir/p.cmajorpatch" "$dir/m.wasm" 2>&1
     ) | sed -n 's/^refused \([A-Za-z]*\) .*/\1/p'
 }

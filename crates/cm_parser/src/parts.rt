@@ -7,7 +7,7 @@ ghost use Rattle.file_grammar.specs.declared.begun.Begun.TheVariants as begun;
 
 use crate::simples::{change_target, simple_stmt, typed_local};
 use crate::targets::begun_by_name;
-use cm_base::{Bytes, Place};
+use cm_base::{Boxed, Bytes, Place};
 use cm_parse_expr::{read_expr, read_type};
 use cm_tree::{Assert, Expr, Sign, Simple, Stmt, Target, TypeExpr};
 use file_grammar::Begun;
@@ -111,21 +111,25 @@ fn begun_stmt(tokens: &mut Cursor<'_>, room: u16, begun: Begun) -> Result<Stmt, 
 }
 
 /// A statement that begins with a name.
+#[inline(never)]
 #[tactic(auto, unfolding(file_grammar::specs::Stmts::named_stmt))]
-pub fn named_stmt(tokens: &mut Cursor<'_>, room: u16) -> Result<Stmt, Stop>
+pub fn named_stmt(tokens: &mut Cursor<'_>, room: u16) -> Result<Boxed<Stmt>, Stop>
     ensures { Reads (spec.named_stmt room tokens.old) result tokens.new }
 {
     let begun = begun_by_name(tokens, room)?;
-    begun_stmt(tokens, room, begun)
+    let stmt = begun_stmt(tokens, room, begun)?;
+    Ok(Boxed::new(tokens.alloc, stmt)?)
 }
 
 /// A declaration by a base type.
+#[inline(never)]
 #[tactic(auto, unfolding(file_grammar::specs::Stmts::based_stmt))]
-pub fn based_stmt(tokens: &mut Cursor<'_>, room: u16) -> Result<Stmt, Stop>
+pub fn based_stmt(tokens: &mut Cursor<'_>, room: u16) -> Result<Boxed<Stmt>, Stop>
     ensures { Reads (spec.based_stmt room tokens.old) result tokens.new }
 {
     let ty = read_type(tokens, room)?;
-    declaration(tokens, room, ty)
+    let stmt = declaration(tokens, room, ty)?;
+    Ok(Boxed::new(tokens.alloc, stmt)?)
 }
 
 /// The third part of the head of a `for`.

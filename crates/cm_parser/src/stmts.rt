@@ -1,6 +1,7 @@
-ghost use Rattle.std.specs.Prelude.{[]};
+ghost use Rattle.std.specs.Prelude.{◌≡◌, [], ◌∷◌, ◌++◌, OnOk, IfOk};
 ghost use Rattle.cm_tree.specs.declared.sign.Sign.TheVariants.{LeftParenthesis, RightBrace};
-ghost use Rattle.token_reader.specs.Parsers.{Reads, is_sign, is_other};
+ghost use Rattle.cm_tree.specs.declared.stmt.Stmt.TheVariants as x;
+ghost use Rattle.token_reader.specs.Parsers.{Reads, pure, is_sign, is_other};
 ghost use Rattle.token_reader.specs.Lists.{while_sees, optional};
 ghost use Rattle.file_grammar.specs.Words as words;
 ghost use Rattle.file_grammar.specs.Stmts as spec;
@@ -16,6 +17,7 @@ use cm_base::{Boxed, Items, Place};
 use cm_parse_expr::read_type;
 use cm_tree::{Block, Expr, Local, Reserved, Sign, Simple, Start, Stmt, TypeExpr};
 use file_grammar::Begun;
+use std::alloc::{AllocError, Global};
 use token_reader::{Cursor, Stop};
 
 // In each function `room` is how high the parts may be, one less than the whole. It is the whole's in `stmt` and
@@ -23,57 +25,63 @@ use token_reader::{Cursor, Stop};
 
 // ---- statements that hold no others, from what follows their first word on
 
+#[inline(never)]
 #[tactic(auto, unfolding(file_grammar::specs::Stmts::return_stmt))]
-fn return_stmt(tokens: &mut Cursor<'_>, room: u16, place: Place) -> Result<Stmt, Stop>
+fn return_stmt(tokens: &mut Cursor<'_>, room: u16, place: Place) -> Result<Boxed<Stmt>, Stop>
     ensures { Reads (spec.return_stmt room (spec.stmt room) place tokens.old) result tokens.new }
 {
     let value = value_up_to(tokens, room)?;
-    Ok(Stmt::Return(place, value))
+    Ok(Boxed::new(tokens.alloc, Stmt::Return(place, value))?)
 }
 
+#[inline(never)]
 #[tactic(auto, unfolding(file_grammar::specs::Stmts::advance_stmt, file_grammar::specs::Stmts::semicolon))]
-fn advance_stmt(tokens: &mut Cursor<'_>, room: u16, place: Place) -> Result<Stmt, Stop>
+fn advance_stmt(tokens: &mut Cursor<'_>, room: u16, place: Place) -> Result<Boxed<Stmt>, Stop>
     ensures { Reads (spec.advance_stmt room (spec.stmt room) place tokens.old) result tokens.new }
 {
     tokens.expect(Sign::LeftParenthesis)?;
     tokens.expect(Sign::RightParenthesis)?;
     tokens.expect(Sign::Semicolon)?;
-    Ok(Stmt::Advance(place))
+    Ok(Boxed::new(tokens.alloc, Stmt::Advance(place))?)
 }
 
+#[inline(never)]
 #[tactic(auto, unfolding(file_grammar::specs::Stmts::let_stmt, file_grammar::specs::Stmts::semicolon))]
-fn let_stmt(tokens: &mut Cursor<'_>, room: u16, place: Place) -> Result<Stmt, Stop>
+fn let_stmt(tokens: &mut Cursor<'_>, room: u16, place: Place) -> Result<Boxed<Stmt>, Stop>
     ensures { Reads (spec.let_stmt room (spec.stmt room) place tokens.old) result tokens.new }
 {
     let local = let_local(tokens, room, place)?;
     tokens.expect(Sign::Semicolon)?;
-    Ok(Stmt::Local(local))
+    Ok(Boxed::new(tokens.alloc, Stmt::Local(local))?)
 }
 
+#[inline(never)]
 #[tactic(auto, unfolding(file_grammar::specs::Stmts::var_stmt, file_grammar::specs::Stmts::semicolon))]
-fn var_stmt(tokens: &mut Cursor<'_>, room: u16, place: Place) -> Result<Stmt, Stop>
+fn var_stmt(tokens: &mut Cursor<'_>, room: u16, place: Place) -> Result<Boxed<Stmt>, Stop>
     ensures { Reads (spec.var_stmt room (spec.stmt room) place tokens.old) result tokens.new }
 {
     let local = var_local(tokens, room, place)?;
     tokens.expect(Sign::Semicolon)?;
-    Ok(Stmt::Local(local))
+    Ok(Boxed::new(tokens.alloc, Stmt::Local(local))?)
 }
 
+#[inline(never)]
 #[tactic(auto, unfolding(file_grammar::specs::Stmts::step_stmt, file_grammar::specs::Stmts::semicolon))]
-fn step_stmt(tokens: &mut Cursor<'_>, room: u16) -> Result<Stmt, Stop>
+fn step_stmt(tokens: &mut Cursor<'_>, room: u16) -> Result<Boxed<Stmt>, Stop>
     ensures { Reads (spec.step_stmt room (spec.stmt room) tokens.old) result tokens.new }
 {
     let step = before(tokens, room)?;
     tokens.expect(Sign::Semicolon)?;
-    Ok(Stmt::Simple(step))
+    Ok(Boxed::new(tokens.alloc, Stmt::Simple(step))?)
 }
 
+#[inline(never)]
 #[tactic(auto, unfolding(file_grammar::specs::Stmts::assert_stmt))]
-fn assert_stmt(tokens: &mut Cursor<'_>, room: u16, place: Place) -> Result<Stmt, Stop>
+fn assert_stmt(tokens: &mut Cursor<'_>, room: u16, place: Place) -> Result<Boxed<Stmt>, Stop>
     ensures { Reads (spec.assert_stmt room (spec.stmt room) place tokens.old) result tokens.new }
 {
     let assert = assertion(tokens, room, place)?;
-    Ok(Stmt::Assert(assert))
+    Ok(Boxed::new(tokens.alloc, Stmt::Assert(assert))?)
 }
 
 #[tactic(auto, unfolding(token_reader::specs::Lists::optional))]
@@ -87,7 +95,40 @@ fn optional_condition(tokens: &mut Cursor<'_>, room: u16) -> Result<Option<Expr>
     Ok(Some(value))
 }
 
+#[inline(never)]
+fn empty_stmt(tokens: &mut Cursor<'_>, place: Place) -> Result<Boxed<Stmt>, Stop>
+    ensures { Reads (pure (x.Empty place) tokens.old) result tokens.new }
+{
+    Ok(Boxed::new(tokens.alloc, Stmt::Empty(place))?)
+}
+
+#[inline(never)]
+#[tactic(auto, unfolding(file_grammar::specs::Stmts::semicolon))]
+fn break_stmt(tokens: &mut Cursor<'_>, place: Place) -> Result<Boxed<Stmt>, Stop>
+    ensures { Reads (spec.semicolon (x.Break place) tokens.old) result tokens.new }
+{
+    tokens.expect(Sign::Semicolon)?;
+    Ok(Boxed::new(tokens.alloc, Stmt::Break(place))?)
+}
+
+#[inline(never)]
+#[tactic(auto, unfolding(file_grammar::specs::Stmts::semicolon))]
+fn continue_stmt(tokens: &mut Cursor<'_>, place: Place) -> Result<Boxed<Stmt>, Stop>
+    ensures { Reads (spec.semicolon (x.Continue place) tokens.old) result tokens.new }
+{
+    tokens.expect(Sign::Semicolon)?;
+    Ok(Boxed::new(tokens.alloc, Stmt::Continue(place))?)
+}
+
 // ---- statements that hold others
+
+// Puts a statement behind the others.
+#[inline(never)]
+fn add(stmts: &mut Items<Stmt>, stmt: Boxed<Stmt>) -> Result<(), AllocError>
+    ensures { OnOk result (stmts.new ≡ stmts.old ++ stmt ∷ []) }
+{
+    stmts.push(stmt.into_inner())
+}
 
 #[cycle(stmt)]
 fn until_brace(tokens: &mut Cursor<'_>, room: u16) -> Result<Items<Stmt>, Stop>
@@ -96,7 +137,7 @@ fn until_brace(tokens: &mut Cursor<'_>, room: u16) -> Result<Items<Stmt>, Stop>
     let mut found = Items::new(tokens.alloc);
     while tokens.sees_other(Sign::RightBrace) {
         let part = stmt(tokens, room)?;
-        found.push(part)?;
+        add(&mut found, part)?;
     }
     Ok(found)
 }
@@ -113,48 +154,65 @@ fn stmts(tokens: &mut Cursor<'_>, room: u16) -> Result<Items<Stmt>, Stop>
 
 #[cycle(stmt)]
 #[tactic(auto, unfolding(file_grammar::specs::Stmts::block))]
-fn block(tokens: &mut Cursor<'_>, room: u16, place: Place) -> Result<Stmt, Stop>
+fn block(tokens: &mut Cursor<'_>, room: u16, place: Place) -> Result<Boxed<Stmt>, Stop>
     ensures { Reads (spec.block room (spec.stmt room) place tokens.old) result tokens.new }
 {
     let stmts = stmts(tokens, room)?;
-    Ok(Stmt::Block(place, stmts))
+    Ok(Boxed::new(tokens.alloc, Stmt::Block(place, stmts))?)
 }
 
 #[cycle(stmt)]
 #[tactic(auto, unfolding(file_grammar::specs::Stmts::if_stmt))]
-fn if_stmt(tokens: &mut Cursor<'_>, room: u16, place: Place) -> Result<Stmt, Stop>
+fn if_stmt(tokens: &mut Cursor<'_>, room: u16, place: Place) -> Result<Boxed<Stmt>, Stop>
     ensures { Reads (spec.if_stmt room (spec.stmt room) place tokens.old) result tokens.new }
 {
     let test = condition(tokens, room)?;
     let inner = stmt(tokens, room)?;
     if !tokens.sees_reserved(Reserved::Else) {
-        return Ok(Stmt::If(place, test, Boxed::new(tokens.alloc, inner)?));
+        return Ok(Boxed::new(tokens.alloc, Stmt::If(place, test, inner))?);
     }
     tokens.skip();
     let other = stmt(tokens, room)?;
-    let inner = Boxed::new(tokens.alloc, inner)?;
-    let other = Boxed::new(tokens.alloc, other)?;
-    Ok(Stmt::IfElse(place, test, inner, other))
+    Ok(Boxed::new(tokens.alloc, Stmt::IfElse(place, test, inner, other))?)
 }
 
 #[cycle(stmt)]
 #[tactic(auto, unfolding(file_grammar::specs::Stmts::loop_stmt))]
-fn loop_stmt(tokens: &mut Cursor<'_>, room: u16, place: Place) -> Result<Stmt, Stop>
+fn loop_stmt(tokens: &mut Cursor<'_>, room: u16, place: Place) -> Result<Boxed<Stmt>, Stop>
     ensures { Reads (spec.loop_stmt room (spec.stmt room) place tokens.old) result tokens.new }
 {
     let count = optional_condition(tokens, room)?;
     let inner = stmt(tokens, room)?;
-    Ok(Stmt::Loop(place, count, Boxed::new(tokens.alloc, inner)?))
+    Ok(Boxed::new(tokens.alloc, Stmt::Loop(place, count, inner))?)
 }
 
 #[cycle(stmt)]
 #[tactic(auto, unfolding(file_grammar::specs::Stmts::while_stmt))]
-fn while_stmt(tokens: &mut Cursor<'_>, room: u16, place: Place) -> Result<Stmt, Stop>
+fn while_stmt(tokens: &mut Cursor<'_>, room: u16, place: Place) -> Result<Boxed<Stmt>, Stop>
     ensures { Reads (spec.while_stmt room (spec.stmt room) place tokens.old) result tokens.new }
 {
     let test = condition(tokens, room)?;
     let inner = stmt(tokens, room)?;
-    Ok(Stmt::While(place, test, Boxed::new(tokens.alloc, inner)?))
+    Ok(Boxed::new(tokens.alloc, Stmt::While(place, test, inner))?)
+}
+
+// A `for` of three parts.
+#[inline(never)]
+fn for_of(
+    alloc: Global,
+    place: Place,
+    begin: Option<Boxed<Start>>,
+    test: Option<Expr>,
+    step: Option<Simple>,
+    inner: Boxed<Stmt>,
+) -> Result<Boxed<Stmt>, AllocError>
+    ensures { IfOk result (λ stmt. stmt ≡ x.For place begin test step inner) }
+{
+    let begin = match begin {
+        Some(begin) => Some(begin.into_inner()),
+        None => None,
+    };
+    Boxed::new(alloc, Stmt::For(place, begin, test, step, inner))
 }
 
 #[cycle(stmt)]
@@ -163,8 +221,8 @@ fn for_parts(
     tokens: &mut Cursor<'_>,
     room: u16,
     place: Place,
-    begin: Option<Start>,
-) -> Result<Stmt, Stop>
+    begin: Option<Boxed<Start>>,
+) -> Result<Boxed<Stmt>, Stop>
     ensures { Reads (spec.for_parts room (spec.stmt room) place begin tokens.old) result tokens.new }
 {
     tokens.expect(Sign::Semicolon)?;
@@ -172,47 +230,57 @@ fn for_parts(
     let step = third(tokens, room)?;
     tokens.expect(Sign::RightParenthesis)?;
     let inner = stmt(tokens, room)?;
-    let inner = Boxed::new(tokens.alloc, inner)?;
-    Ok(Stmt::For(place, begin, test, step, inner))
+    Ok(for_of(tokens.alloc, place, begin, test, step, inner)?)
 }
 
 #[cycle(stmt)]
 #[tactic(auto, unfolding(file_grammar::specs::Stmts::for_type))]
-fn for_type(tokens: &mut Cursor<'_>, room: u16, place: Place, ty: TypeExpr) -> Result<Stmt, Stop>
+fn for_type(
+    tokens: &mut Cursor<'_>,
+    room: u16,
+    place: Place,
+    ty: TypeExpr,
+) -> Result<Boxed<Stmt>, Stop>
     ensures { Reads (spec.for_type room (spec.stmt room) place ty tokens.old) result tokens.new }
 {
     let name = word(tokens)?;
     if !tokens.sees(Sign::RightParenthesis) {
         let names = vars_of(tokens, room, name)?;
-        let begin = Some(Start::Local(Local::Typed(ty, names)));
-        return for_parts(tokens, room, place, begin);
+        let begin = Boxed::new(tokens.alloc, Start::Local(Local::Typed(ty, names)))?;
+        return for_parts(tokens, room, place, Some(begin));
     }
     tokens.skip();
     let inner = stmt(tokens, room)?;
-    let inner = Boxed::new(tokens.alloc, inner)?;
-    Ok(Stmt::ForType(place, ty, name, inner))
+    Ok(Boxed::new(tokens.alloc, Stmt::ForType(place, ty, name, inner))?)
 }
 
 #[cycle(stmt)]
-fn for_begun(tokens: &mut Cursor<'_>, room: u16, place: Place, begun: Begun) -> Result<Stmt, Stop>
+fn for_begun(
+    tokens: &mut Cursor<'_>,
+    room: u16,
+    place: Place,
+    begun: Begun,
+) -> Result<Boxed<Stmt>, Stop>
     ensures { Reads (spec.for_begun room (spec.stmt room) place begun tokens.old) result tokens.new }
 {
     match begun {
         Begun::Type(ty) => for_type(tokens, room, place, ty),
         Begun::Target(target) => {
             let simple = change_target(tokens, room, target)?;
-            for_parts(tokens, room, place, Some(Start::Simple(simple)))
+            let begin = Boxed::new(tokens.alloc, Start::Simple(simple))?;
+            for_parts(tokens, room, place, Some(begin))
         }
         Begun::Call(path, args) => {
-            let call = Simple::Call(path, args);
-            for_parts(tokens, room, place, Some(Start::Simple(call)))
+            let call = Start::Simple(Simple::Call(path, args));
+            let begin = Boxed::new(tokens.alloc, call)?;
+            for_parts(tokens, room, place, Some(begin))
         }
     }
 }
 
 #[cycle(stmt)]
 #[tactic(auto, unfolding(file_grammar::specs::Stmts::for_base))]
-fn for_base(tokens: &mut Cursor<'_>, room: u16, place: Place) -> Result<Stmt, Stop>
+fn for_base(tokens: &mut Cursor<'_>, room: u16, place: Place) -> Result<Boxed<Stmt>, Stop>
     ensures { Reads (spec.for_base room (spec.stmt room) place tokens.old) result tokens.new }
 {
     let ty = read_type(tokens, room)?;
@@ -221,7 +289,7 @@ fn for_base(tokens: &mut Cursor<'_>, room: u16, place: Place) -> Result<Stmt, St
 
 #[cycle(stmt)]
 #[tactic(auto, unfolding(file_grammar::specs::Stmts::for_name))]
-fn for_name(tokens: &mut Cursor<'_>, room: u16, place: Place) -> Result<Stmt, Stop>
+fn for_name(tokens: &mut Cursor<'_>, room: u16, place: Place) -> Result<Boxed<Stmt>, Stop>
     ensures { Reads (spec.for_name room (spec.stmt room) place tokens.old) result tokens.new }
 {
     let begun = begun_by_name(tokens, room)?;
@@ -230,29 +298,32 @@ fn for_name(tokens: &mut Cursor<'_>, room: u16, place: Place) -> Result<Stmt, St
 
 #[cycle(stmt)]
 #[tactic(auto, unfolding(file_grammar::specs::Stmts::for_step))]
-fn for_step(tokens: &mut Cursor<'_>, room: u16, place: Place) -> Result<Stmt, Stop>
+fn for_step(tokens: &mut Cursor<'_>, room: u16, place: Place) -> Result<Boxed<Stmt>, Stop>
     ensures { Reads (spec.for_step room (spec.stmt room) place tokens.old) result tokens.new }
 {
     let step = before(tokens, room)?;
-    for_parts(tokens, room, place, Some(Start::Simple(step)))
+    let begin = Boxed::new(tokens.alloc, Start::Simple(step))?;
+    for_parts(tokens, room, place, Some(begin))
 }
 
 #[cycle(stmt)]
 #[tactic(auto, unfolding(file_grammar::specs::Stmts::for_let))]
-fn for_let(tokens: &mut Cursor<'_>, room: u16, place: Place, at: Place) -> Result<Stmt, Stop>
+fn for_let(tokens: &mut Cursor<'_>, room: u16, place: Place, at: Place) -> Result<Boxed<Stmt>, Stop>
     ensures { Reads (spec.for_let room (spec.stmt room) place at tokens.old) result tokens.new }
 {
     let local = let_local(tokens, room, at)?;
-    for_parts(tokens, room, place, Some(Start::Local(local)))
+    let begin = Boxed::new(tokens.alloc, Start::Local(local))?;
+    for_parts(tokens, room, place, Some(begin))
 }
 
 #[cycle(stmt)]
 #[tactic(auto, unfolding(file_grammar::specs::Stmts::for_var))]
-fn for_var(tokens: &mut Cursor<'_>, room: u16, place: Place, at: Place) -> Result<Stmt, Stop>
+fn for_var(tokens: &mut Cursor<'_>, room: u16, place: Place, at: Place) -> Result<Boxed<Stmt>, Stop>
     ensures { Reads (spec.for_var room (spec.stmt room) place at tokens.old) result tokens.new }
 {
     let local = var_local(tokens, room, at)?;
-    for_parts(tokens, room, place, Some(Start::Local(local)))
+    let begin = Boxed::new(tokens.alloc, Start::Local(local))?;
+    for_parts(tokens, room, place, Some(begin))
 }
 
 #[cycle(stmt)]
@@ -262,7 +333,7 @@ fn head_opened(
     place: Place,
     at: Place,
     opening: Opening,
-) -> Result<Stmt, Stop>
+) -> Result<Boxed<Stmt>, Stop>
     ensures { Reads (starts.head_opened room (spec.stmt room) place at opening tokens.old) result tokens.new }
 {
     match opening {
@@ -280,7 +351,7 @@ fn head_opened(
 }
 
 #[cycle(stmt)]
-fn for_head(tokens: &mut Cursor<'_>, room: u16, place: Place) -> Result<Stmt, Stop>
+fn for_head(tokens: &mut Cursor<'_>, room: u16, place: Place) -> Result<Boxed<Stmt>, Stop>
     ensures { Reads (starts.for_head room (spec.stmt room) place tokens.old) result tokens.new }
 {
     let Some(token) = tokens.peek() else {
@@ -299,7 +370,7 @@ fn for_head(tokens: &mut Cursor<'_>, room: u16, place: Place) -> Result<Stmt, St
 
 #[cycle(stmt)]
 #[tactic(auto, unfolding(file_grammar::specs::Stmts::for_stmt, crate::specs::StmtStarts::for_head))]
-fn for_stmt(tokens: &mut Cursor<'_>, room: u16, place: Place) -> Result<Stmt, Stop>
+fn for_stmt(tokens: &mut Cursor<'_>, room: u16, place: Place) -> Result<Boxed<Stmt>, Stop>
     ensures { Reads (spec.for_stmt room (spec.stmt room) place tokens.old) result tokens.new }
 {
     tokens.expect(Sign::LeftParenthesis)?;
@@ -308,13 +379,17 @@ fn for_stmt(tokens: &mut Cursor<'_>, room: u16, place: Place) -> Result<Stmt, St
 
 // A statement from what follows its first word or sign on, which stands at the place.
 #[cycle(stmt)]
-#[tactic(auto, unfolding(file_grammar::specs::Stmts::semicolon))]
-fn opened(tokens: &mut Cursor<'_>, room: u16, place: Place, opening: Opening) -> Result<Stmt, Stop>
+fn opened(
+    tokens: &mut Cursor<'_>,
+    room: u16,
+    place: Place,
+    opening: Opening,
+) -> Result<Boxed<Stmt>, Stop>
     ensures { Reads (starts.opened room (spec.stmt room) place opening tokens.old) result tokens.new }
 {
     match opening {
         Opening::Block => block(tokens, room, place),
-        Opening::Empty => Ok(Stmt::Empty(place)),
+        Opening::Empty => empty_stmt(tokens, place),
         Opening::Let => let_stmt(tokens, room, place),
         Opening::Var => var_stmt(tokens, room, place),
         Opening::Assert => assert_stmt(tokens, room, place),
@@ -322,21 +397,15 @@ fn opened(tokens: &mut Cursor<'_>, room: u16, place: Place, opening: Opening) ->
         Opening::Loop => loop_stmt(tokens, room, place),
         Opening::While => while_stmt(tokens, room, place),
         Opening::For => for_stmt(tokens, room, place),
-        Opening::Break => {
-            tokens.expect(Sign::Semicolon)?;
-            Ok(Stmt::Break(place))
-        }
-        Opening::Continue => {
-            tokens.expect(Sign::Semicolon)?;
-            Ok(Stmt::Continue(place))
-        }
+        Opening::Break => break_stmt(tokens, place),
+        Opening::Continue => continue_stmt(tokens, place),
         Opening::Return => return_stmt(tokens, room, place),
         Opening::Advance => advance_stmt(tokens, room, place),
     }
 }
 
 #[cycle(stmt)]
-fn one(tokens: &mut Cursor<'_>, room: u16) -> Result<Stmt, Stop>
+fn one(tokens: &mut Cursor<'_>, room: u16) -> Result<Boxed<Stmt>, Stop>
     ensures { Reads (spec.one room (spec.stmt room) tokens.old) result tokens.new }
 {
     let Some(token) = tokens.peek() else {
@@ -355,7 +424,7 @@ fn one(tokens: &mut Cursor<'_>, room: u16) -> Result<Stmt, Stop>
 }
 
 #[cycle(stmt)]
-fn stmt(tokens: &mut Cursor<'_>, room: u16) -> Result<Stmt, Stop>
+fn stmt(tokens: &mut Cursor<'_>, room: u16) -> Result<Boxed<Stmt>, Stop>
     ensures { Reads (spec.stmt room tokens.old) result tokens.new }
 {
     if room == 0 {

@@ -30,7 +30,7 @@ until_brace-loop-tokens-preserved t c =
     let goes_on : sees (is_other s.RightBrace) c.loop-tokens.tokens ≡ true = cc in
     c.loop-tokens.invariant
     ∙ while_more (is_other s.RightBrace) (stmt c.args.room) (stmt_reads c.args.room).local (stmt_reads c.args.room).takes c.loop-tokens.found c.loop-tokens.tokens c.in_ok-part.part c.stmt.new.tokens goes_on c.in_ok-part.ensures
-    ∙ rw c.in_ok-push.ensures.ok refl
+    ∙ rw c.in_ok-add.ensures refl
 
 pub until_brace-returns : goal.until_brace-returns
 until_brace-returns t c =

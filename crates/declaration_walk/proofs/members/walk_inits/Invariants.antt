@@ -1,0 +1,7 @@
+use Rattle.declaration_walk.specs.Declares.{init_sites}
+use Rattle.scope_walk.specs.Steps.{Reads}
+use Rattle.std.proofs.Common.{flat_map, take}
+use Rattle.declaration_walk.proofs.members.walk_inits.Given as goal
+
+abbrev pub invariant-loop-init : goal.invariant-loop-init
+invariant-loop-init l = Reads l.fn.steps l.steps (λ r. flat_map (init_sites r) (take l.init-index l.inits))

@@ -1,0 +1,7 @@
+use Rattle.cm_meaning.specs.Scopes.{end_names}
+use Rattle.declaration_walk.specs.Declares.{Declares}
+use Rattle.std.proofs.Common.{drop, flat_map}
+use Rattle.declaration_walk.proofs.names.declare_ends.Given as goal
+
+abbrev pub invariant-loop-index : goal.invariant-loop-index
+invariant-loop-index l = Declares l.fn.steps l.steps (λ h. flat_map (end_names h l.flow) (drop l.index l.ends))

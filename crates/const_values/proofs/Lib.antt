@@ -1,6 +1,8 @@
 pub mod Arms
+pub mod Constructed
 pub mod Constructs
 pub mod Indices
+pub mod Fits
 pub mod Forms
 pub mod Operands
 pub mod Parts

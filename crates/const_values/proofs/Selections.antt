@@ -1,14 +1,14 @@
 -- Fields of constant structs, one after another.
-use Rattle.std.specs.Prelude.{◌≡◌, refl, ℕ, Bool, true, false, ◌&&◌, if◌then◌else◌, List, [], Option, Some, None, is_some, option_and_then, bytes_eq, Ok, Err}
-use Rattle.std.proofs.Common.{ap, sym, ◌∙◌, subst, inl}
+use Rattle.std.specs.Prelude.{◌≡◌, refl, ℕ, Bool, true, false, if◌then◌else◌, List, [], Option, Some, None, is_some, bytes_eq, Ok}
+use Rattle.std.proofs.Common.{ap, sym, subst, inl}
 use Rattle.cm_base.specs.declared.cause.Cause.TheVariants as cause
 use Rattle.cm_base.specs.declared.failure.Fail.{Fail}
 use Rattle.cm_base.specs.declared.failure.Fail.TheVariants as fail
 use Rattle.cm_tree.specs.declared.path.Word.{Word}
 use Rattle.cm_types.specs.declared.valued.Valued.{Valued as CodeValued}
 use Rattle.cm_types.specs.Lawful.{AreLawfulTypes, IsSound}
-use Rattle.cm_types.specs.Meant.{meant_type, meant_valued}
-use Rattle.cm_meaning.specs.Faults.{Fault, fault, unless}
+use Rattle.cm_types.specs.Meant.{meant_valued}
+use Rattle.cm_meaning.specs.Faults.{fault, unless}
 use Rattle.cm_meaning.specs.Types.{CmType, Single, Array, Record, FieldTypes, NoFields, Field, Value, Number, Truth, Many, Values, NoValues, Then, is_of, are_fields}
 use Rattle.cm_meaning.specs.Conversions.{Valued}
 use Rattle.cm_meaning.specs.Constants.{field_in, field_of}

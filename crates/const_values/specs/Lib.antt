@@ -1,4 +1,5 @@
 pub mod Answers
+pub mod Construct
 pub mod Elements
 pub mod Members
 pub mod Names

@@ -4,9 +4,12 @@
 //!
 //! It goes down the tree of an expression and no further than its height, and never into the declaration of a name: whoever
 //! answers for names evaluates constants in the order of their needs, each once.
+//!
+//! `made` is the value of a type that is made of constants, from their values. `constant` doesn't call it yet.
 #![tactic(auto)]
 
 mod choices;
+mod construct;
 mod elements;
 mod evaluate;
 mod form;
@@ -17,6 +20,7 @@ mod places;
 #[cfg(test)]
 mod tests;
 
+pub use construct::{Given, made};
 pub use evaluate::constant;
 pub use form::is_constant;
 pub use names::{Argument, Arguments, ConstNames, Env, Found};

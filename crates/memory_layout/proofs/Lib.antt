@@ -1,0 +1,5 @@
+mod Alike
+mod Functions
+mod Counts
+mod Own
+mod Past

@@ -1,0 +1,25 @@
+//! How large the units of a program are, by docs/LANGUAGE.md, "Sizes": a leaf and the bodies of its handlers (`unit_sizes`),
+//! the split points of a `main` (`main_splits`), and the bytes of its state (`state_bytes`). Each equals its definition in
+//! `cm_core/specs`, `Sizes` for code and `Measures` for units, held at 2^64 - 1: a function that calls another twice doubles
+//! its size, so that sizes have no bound. What a write counts for the chains of its endpoint is given, since it rests on the
+//! other leaves.
+#![tactic(auto)]
+
+mod bodies;
+mod bytes;
+mod calls;
+mod exprs;
+mod forms;
+mod names;
+mod scale;
+mod splits;
+mod stmts;
+mod structs;
+mod type_view;
+mod units;
+mod used;
+
+pub use bytes::{bytes_of, state_bytes};
+pub use splits::main_splits;
+pub use structs::struct_counts;
+pub use units::{UnitSizes, unit_sizes};

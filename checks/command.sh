@@ -49,6 +49,17 @@ holds <(head -c 4 "$out" | tr '\0' 0) 0asm
 
 # the compiled example puts the lines that it is to
 script=examples/through/script.json
+"$built" render "$patch" "$script" 10 >"$dir/lines" 2>"$dir/stderr" || differs "render: status $?"
+same examples/through/lines.txt "$dir/lines"
+holds "$dir/stderr" "listener 0 heard 3"
+expect 1 "usage" render "$patch" "$script"
+expect 1 "usage" render "$patch" "$script" 1048577
+expect 1 "usage" render "$patch" "$script" 10 state
+expect 2 "absent $dir/none.cmajorpatch" render "$dir/none.cmajorpatch" "$script" 10
+expect 2 "absent $dir/none.json" render "$patch" "$dir/none.json" 10
+expect 3 "read fault $dir/folder" render "$patch" "$dir/folder" 10
+expect 4 "too big $dir/long.cmajorpatch" render "$dir/long.cmajorpatch" "$script" 10
+expect 5 "refused NotYet $dir/other/through.cmajor:1:1" render "$dir/other/through.cmajorpatch" "$script" 10
 "$built" play "$out" "$script" 100 >"$dir/lines" 2>"$dir/stderr" || differs "play: status $?"
 same examples/through/lines.txt "$dir/lines"
 holds "$dir/stderr" "listener 0 heard 3"
@@ -57,6 +68,7 @@ expect 1 "usage" play "$out" "$script" 72057594037927937
 expect 2 "absent $dir/none.wasm" play "$dir/none.wasm" "$script" 100
 expect 3 "read fault $dir/folder" play "$out" "$dir/folder" 100
 printf '{"frames":1,"streams":{"out":[1]}}' >"$dir/script.json"
+expect 7 "input refused Endpoint Streams 0" render "$patch" "$dir/script.json" 10
 expect 7 "input refused Endpoint Streams 0" play "$out" "$dir/script.json" 100
 head -c 122 "$out" >"$dir/short.wasm"
 expect 8 "module refused Size 122" play "$dir/short.wasm" "$script" 100
@@ -66,6 +78,8 @@ truncate -s 33554433 "$dir/long.wasm"
 expect 4 "too big $dir/long.wasm" play "$dir/long.wasm" "$script" 100
 
 # a full device and a closed stream take no line
+"$built" render "$patch" "$script" 10 >/dev/full 2>"$dir/stderr"
+[ $? -eq 12 ] || differs "a full device isn't told by render"
 "$built" play "$out" "$script" 100 >/dev/full 2>"$dir/stderr"
 [ $? -eq 12 ] || differs "a full device isn't told"
 holds "$dir/stderr" "write fault out"

@@ -14,10 +14,10 @@ use Rattle.commands.specs.declared.stop.Stop.{Stop}
 use Rattle.commands.specs.Compile.{IsFormModule, IsCompiled}
 use Rattle.commands.specs.Due.{IsDue, IsDueFor}
 use Rattle.commands.specs.Files.{KeepsUnwritten}
-use Rattle.commands.specs.Patch.{PatchOf, NamedPatchOf}
+use Rattle.commands.specs.Patch.{MeanPatch, NamePatch, PatchOf, NamedPatchOf}
 use Rattle.commands.specs.Statuses.{Reads, MayAnswer, HasCause, OnExplained, OnUnwritten}
 use Rattle.commands.specs.Steps.{Stopped, FileAbsent, ReadFailed, FileTooBig, PatchRefused, ModuleIsRefused, ScriptRefused, OutOfMemory, Unwritten, WriteFailed, WriteLacksMemory, Ends, EndsWords, ended}
-use Rattle.commands.specs.Words.{Command, Compile, Play, command_of, file_written}
+use Rattle.commands.specs.Words.{Command, Compile, Render, Play, command_of, file_written}
 use Rattle.commands.proofs.StepLemmas.{told, rose_later}
 
 -- ---- nothing is written
@@ -31,6 +31,7 @@ others_kept held held' name e = subst (λ (h : Option Files). KeepsOthers held h
 
 kept : (command : Command) (before after : Seen) → after.holds ≡ before.holds → KeepsUnwritten (file_written (Some command)) before after
 kept (Compile manifest out) before after e = others_kept before.holds after.holds out e
+kept (Render manifest input turns) before after e = e
 kept (Play wasm input steps) before after e = e
 
 -- a step that stops before anything is written ends the command
@@ -53,17 +54,23 @@ stop_ends command before after due s same goes OutOfMemory =
 
 -- ---- the module is written
 
--- what the files mean
-patch_of : (files : Files) (manifest input output : List ℕ) → NamedPatchOf files manifest input output → (patch : Linked) × IsThroughPatch input output patch × PatchOf files manifest patch
-patch_of files manifest input output p =
-    let form = p.mean.form in
+-- what texts mean
+pub meant : (texts : List (List ℕ)) (input output : List ℕ) → NamePatch texts input output → (patch : Linked) × IsThroughPatch input output patch × MeanPatch texts patch
+meant texts input output n =
+    let form = n.form in
     let tree = the_tree (parts_of form.form.through) input output in
     let patch = linked form.files tree in
     let is_tree = has_tree form.form in (
       patch,
-      record { files = form.files; read = are_read p.texts form.files form.trees; processor = p.mean.processor; form = form.form; tree = tree; is_tree = is_tree; is = refl },
-      record { names = p.names; texts = p.texts; named = p.named; have = p.have; mean = record { input = input; output = output; named = p.mean; tree = tree; is_tree = is_tree; is_patch = refl } },
+      record { files = form.files; read = are_read texts form.files form.trees; processor = n.processor; form = form.form; tree = tree; is_tree = is_tree; is = refl },
+      record { input = input; output = output; named = n; tree = tree; is_tree = is_tree; is_patch = refl },
     )
+
+-- what the files mean
+pub patch_of : (files : Files) (manifest input output : List ℕ) → NamedPatchOf files manifest input output → (patch : Linked) × IsThroughPatch input output patch × PatchOf files manifest patch
+patch_of files manifest input output p =
+    let m = meant p.texts input output p.mean in
+    (m.0, m.1, record { names = p.names; texts = p.texts; named = p.named; have = p.have; mean = m.2 })
 
 compiled : (held held' : Option Files) (manifest out bytes input output : List ℕ) → IfSome held (λ files. NamedPatchOf files manifest input output) → IsFormModule input output bytes →
     IfSome held' (λ files. file_at files out ≡ Some bytes) → IfSome held (λ old. IfSome held' (λ new. IsCompiled old new manifest out))

@@ -4,3 +4,4 @@ pub mod ManifestLemmas
 pub mod PatchLemmas
 pub mod EndLemmas
 pub mod PlayLemmas
+pub mod RenderLemmas

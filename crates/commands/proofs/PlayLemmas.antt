@@ -51,10 +51,10 @@ pub script_answer : (ends : List HostEnd) (bytes : List ℕ) (f : FormFail) (fau
 script_answer ends bytes f fault is answers = subst (λ (e : FormFail). Answers {X = Script} (Err e) (script_in ends bytes)) is answers
 
 -- a file of `play` that has no bytes to work on
-pub unread_play : (before after : Seen) (f : FileRef) (name : List ℕ) (limit : ℕ) (decide : List ℕ → Status → Type 0) (s : Status) → IsPlayFile f →
-    Stopped before after (λ g. g ≡ f) (λ files. Unread files f name limit) s → Stopped before after IsPlayFile (λ files. AfterFile files f name limit decide) s
-unread_play before after f name limit decide s is stop =
-    stop_of before after _ IsPlayFile (λ files. Unit {0}) _ _ s (λ g e. subst IsPlayFile (sym e) is) (told_all before.holds) (λ files t u d. inl d) stop
+pub unread_play : (before after : Seen) (reads : FileRef → Type 0) (f : FileRef) (name : List ℕ) (limit : ℕ) (decide : List ℕ → Status → Type 0) (s : Status) → reads f →
+    Stopped before after (λ g. g ≡ f) (λ files. Unread files f name limit) s → Stopped before after reads (λ files. AfterFile files f name limit decide) s
+unread_play before after reads f name limit decide s is stop =
+    stop_of before after _ reads (λ files. Unit {0}) _ _ s (λ g e. subst reads (sym e) is) (told_all before.holds) (λ files t u d. inl d) stop
 
 module_refused : (before after : Seen) (name bytes : List ℕ) (s : Status) → IfSome before.holds (λ files. HasFile files name (least_limit file.Module) bytes) → RefusesModule bytes s →
     Stopped before after IsPlayFile (λ files. NoModule files name) s
@@ -70,31 +70,31 @@ module_stop before after name bytes s has (inl e) = subst (Stopped before after 
 module_stop before after name bytes s has (inr r) = module_refused before after name bytes s has r
 
 script_refused : (before after : Seen) (name bytes : List ℕ) (ends : List HostEnd) (s : Status) → IfSome before.holds (λ files. HasFile files name (least_limit file.Input) bytes) → RefusesScript ends bytes s →
-    Stopped before after IsPlayFile (λ files. NoScript files name ends) s
+    Stopped before after (λ f. f ≡ file.Input) (λ files. NoScript files name ends) s
 script_refused before after name bytes ends _ has (Malformed fault is) =
-    ScriptRefused fault tt (told before.holds _ _ (λ files h. inr (record { bytes = bytes; file = h; holds = Malformed fault is })) has)
+    ScriptRefused fault refl (told before.holds _ _ (λ files h. inr (record { bytes = bytes; file = h; holds = Malformed fault is })) has)
 
 -- a script that is refused
 pub script_stop : (before after : Seen) (name bytes : List ℕ) (ends : List HostEnd) (s : Status) → IfSome before.holds (λ files. HasFile files name (least_limit file.Input) bytes) →
-    ((s ≡ status.NoMemory) ⊎ RefusesScript ends bytes s) → Stopped before after IsPlayFile (λ files. NoScript files name ends) s
-script_stop before after name bytes ends s has (inl e) = subst (Stopped before after IsPlayFile (λ files. NoScript files name ends)) (sym e) OutOfMemory
+    ((s ≡ status.NoMemory) ⊎ RefusesScript ends bytes s) → Stopped before after (λ f. f ≡ file.Input) (λ files. NoScript files name ends) s
+script_stop before after name bytes ends s has (inl e) = subst (Stopped before after (λ f. f ≡ file.Input) (λ files. NoScript files name ends)) (sym e) OutOfMemory
 script_stop before after name bytes ends s has (inr r) = script_refused before after name bytes ends s has r
 
 -- no script, so nothing is run
 pub script_later : (before mid after : Seen) (wasm input : List ℕ) (steps : ℕ) (m : Module) (section : CmajorSection) (s : Status) → OnlyRead before mid → OnlyRead mid after → IfSome before.holds (λ files. HasModule files wasm m section) →
-    Stopped mid after IsPlayFile (λ files. NoScript files input (ends_of section)) s → Stopped before after IsPlayFile (λ files. IsPlayDue files wasm input steps) s
+    Stopped mid after (λ f. f ≡ file.Input) (λ files. NoScript files input (ends_of section)) s → Stopped before after IsPlayFile (λ files. IsPlayDue files wasm input steps) s
 script_later before mid after wasm input steps m section s first second has stop =
-    stop_of before after IsPlayFile IsPlayFile (λ files. HasModule files wasm m section) _ _ s (λ f r. r) has (λ files t h d. inr (m, section, h, inl d)) (stop_later before mid after IsPlayFile _ s first second.counts stop)
+    stop_of before after _ IsPlayFile (λ files. HasModule files wasm m section) _ _ s (λ f e. subst IsPlayFile (sym e) tt) has (λ files t h d. inr (m, section, h, inl d)) (stop_later before mid after _ _ s first second.counts stop)
 
 -- such a step comes before the run
-pub stopped_before : (before after : Seen) (due : Files → Status → Type 0) (s : Status) → Stopped before after IsPlayFile due s → IsBefore s
-stopped_before before after due _ (FileAbsent f r rose d) = tt
-stopped_before before after due _ (ReadFailed f r rose) = tt
-stopped_before before after due _ (FileTooBig f n r past d) = tt
-stopped_before before after due _ (PatchRefused r m d) = absurd m
-stopped_before before after due _ (ModuleIsRefused r m d) = tt
-stopped_before before after due _ (ScriptRefused fault m d) = tt
-stopped_before before after due _ OutOfMemory = tt
+pub stopped_before : (before after : Seen) (reads : FileRef → Type 0) (due : Files → Status → Type 0) (s : Status) → Stopped before after reads due s → IsBefore s
+stopped_before before after reads due _ (FileAbsent f r rose d) = tt
+stopped_before before after reads due _ (ReadFailed f r rose) = tt
+stopped_before before after reads due _ (FileTooBig f n r past d) = tt
+stopped_before before after reads due _ (PatchRefused r m d) = tt
+stopped_before before after reads due _ (ModuleIsRefused r m d) = tt
+stopped_before before after reads due _ (ScriptRefused fault m d) = tt
+stopped_before before after reads due _ OutOfMemory = tt
 
 -- ---- the run
 
@@ -103,7 +103,7 @@ run_may wasm input steps run.Ended = tt
 run_may wasm input steps (run.StepsSpent at) = tt
 run_may wasm input steps (run.Trapped at) = tt
 run_may wasm input steps run.PutFailed = refl
-run_may wasm input steps (run.ListenerFailed number) = tt
+run_may wasm input steps (run.ListenerFailed number) = inr tt
 run_may wasm input steps run.NoMemory = tt
 
 run_caused : (before after : Seen) (end : RunEnd) → HasCause before after (status_of_run end)
@@ -145,7 +145,7 @@ told_explained m section script steps before after end P due (Cut first item oth
 told_explained m section script steps before after end P due (NotBegun is same) =
     subst (λ (e : RunEnd). OnExplained (status_of_run e) (P (status_of_run e))) (sym is) tt
 
-both_told : (held held' : Option Files) → IfSome held (λ old. IfSome held' (λ new. Unit {0}))
+pub both_told : (held held' : Option Files) → IfSome held (λ old. IfSome held' (λ new. Unit {0}))
 both_told None held' = tt
 both_told (Some old) None = tt
 both_told (Some old) (Some new) = tt

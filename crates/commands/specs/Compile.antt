@@ -6,7 +6,7 @@ use Rattle.module_build.specs.Build.{KeepsPatch, KeepsForm}
 use Rattle.wasm_tree.specs.declared.module.Module.{Module}
 use Rattle.wasm_tree.specs.Spelled.{Spelled}
 use Rattle.commands.specs.Patch.{PatchOf}
-use Rattle.commands.specs.Words.{Command, Compile, Play}
+use Rattle.commands.specs.Words.{Command, Compile, Render, Play}
 
 -- bytes that spell a module which keeps the patch
 pub record IsModuleOf (patch : Linked) (bytes : List ℕ) : Type 0 where
@@ -32,7 +32,8 @@ pub record IsCompiled (old new : Files) (manifest out : List ℕ) : Type 0 where
   pub is_patch : PatchOf old manifest patch
   pub written : HoldsModule new out patch
 
--- The command did its work. What `play` tells is said for every answer.
+-- The command did its work. What `render` and `play` tell is said for every answer.
 abbrev pub IsDone : Command → Files → Files → Type 0
 IsDone (Compile manifest out) old new = IsCompiled old new manifest out
+IsDone (Render manifest input turns) old new = Unit {0}
 IsDone (Play wasm input steps) old new = Unit {0}

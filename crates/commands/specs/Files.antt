@@ -32,6 +32,14 @@ IsPlayFile file.State = ⊥
 IsPlayFile file.Input = Unit {0}
 IsPlayFile file.Module = Unit {0}
 
+-- the files of `render`: those of the patch and the script
+abbrev pub IsRenderFile : FileRef → Type 0
+IsRenderFile file.Manifest = Unit {0}
+IsRenderFile (file.Source number) = (1 ≤ number) × (number ≤ 64)
+IsRenderFile file.State = ⊥
+IsRenderFile file.Input = Unit {0}
+IsRenderFile file.Module = ⊥
+
 -- the file of this name has these bytes, no more than its limit
 pub record HasFile (files : Files) (name : List ℕ) (limit : ℕ) (bytes : List ℕ) : Type 0 where
   pub held : file_at files name ≡ Some bytes

@@ -3,6 +3,8 @@ pub mod Due
 pub mod Files
 pub mod Patch
 pub mod Playing
+pub mod Rendering
 pub mod Statuses
 pub mod Steps
+pub mod Told
 pub mod Words

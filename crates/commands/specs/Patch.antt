@@ -28,6 +28,11 @@ pub record NamePatch (texts : List (List ℕ)) (input output : List ℕ) : Type 
   pub processor : List ℕ
   pub form : IsForm texts processor input output
 
+-- so named are the endpoints of some patch of the form
+pub record NameSome (input output : List ℕ) : Type 0 where
+  pub texts : List (List ℕ)
+  pub named : NamePatch texts input output
+
 -- the patch is what the trees of the texts mean
 pub record MeanPatch (texts : List (List ℕ)) (patch : Linked) : Type 0 where
   pub input : List ℕ

@@ -1,5 +1,5 @@
 -- Which module and script files hold, and what is due where they hold none: docs/COMMANDS.md, "play" and "The order of work".
-use Rattle.std.specs.Prelude.{ℕ, ◌≡◌, ◌⊎◌, List, [], Option, Some, None, Ok, Err, IfSome}
+use Rattle.std.specs.Prelude.{ℕ, ◌≡◌, ◌⊎◌, List, [], Option, Ok, Err, IfSome}
 use Rattle.cm_base.specs.declared.forms.FormFault.{FormFault}
 use Rattle.cm_base.specs.declared.host.HostEnd.{HostEnd}
 use Rattle.cm_base.specs.declared.play.Script.{Script}
@@ -22,7 +22,6 @@ use Rattle.commands.specs.declared.status.Status.{Status}
 use Rattle.commands.specs.declared.status.Status.TheVariants as status
 use Rattle.commands.specs.Files.{FileWith, AfterFile, least_limit}
 use Rattle.commands.specs.Statuses.{status_of_run}
-use Rattle.commands.specs.Words.{Command, Compile, Play}
 
 -- ---- the module
 
@@ -82,6 +81,7 @@ abbrev pub IsBefore : Status → Type 0
 IsBefore (status.Absent f) = Unit {0}
 IsBefore (status.ReadFault f) = Unit {0}
 IsBefore (status.TooBig f length) = Unit {0}
+IsBefore (status.Refused refused) = Unit {0}
 IsBefore (status.ModuleRefused refused) = Unit {0}
 IsBefore (status.InputRefused fault) = Unit {0}
 IsBefore status.NoMemory = Unit {0}
@@ -102,13 +102,3 @@ pub record PlayRuns (held : Option Files) (wasm input : List ℕ) (steps : ℕ) 
   pub has_module : IfSome held (λ files. HasModule files wasm m section)
   pub has_script : IfSome held (λ files. HasScript files input (ends_of section) script)
   pub told : RunIsTold m section script steps before after answer
-
--- what a command puts to the output and has the listeners hear, by its answer and by what the folder held
-abbrev pub TellsFor : Command → Option Files → (before after : Outside) → Status → Type 0
-TellsFor (Compile manifest out) held before after answer = after ≡ before
-TellsFor (Play wasm input steps) held before after answer = (IsBefore answer × (after ≡ before)) ⊎ PlayRuns held wasm input steps before after answer
-
--- words of no command tell nothing
-abbrev pub TellsWords : Option Command → Option Files → (before after : Outside) → Status → Type 0
-TellsWords None held before after answer = after ≡ before
-TellsWords (Some command) held before after answer = TellsFor command held before after answer

@@ -1,5 +1,5 @@
 -- What each status needs: docs/COMMANDS.md, "Statuses".
-use Rattle.std.specs.Prelude.{ℕ, ◌≡◌, ◌<◌}
+use Rattle.std.specs.Prelude.{ℕ, ◌≡◌, ◌<◌, ◌⊎◌}
 use Rattle.cm_base.specs.declared.failure.Fail.{Fail}
 use Rattle.cm_base.specs.declared.failure.Fail.TheVariants as fail
 use Rattle.cm_io.specs.Count.{Rose}
@@ -12,8 +12,8 @@ use Rattle.commands.specs.declared.status.Target.{Target}
 use Rattle.commands.specs.declared.status.Target.TheVariants as target
 use Rattle.commands.specs.declared.status.Status.{Status}
 use Rattle.commands.specs.declared.status.Status.TheVariants as status
-use Rattle.commands.specs.Files.{IsPatchFile, IsPlayFile, least_limit}
-use Rattle.commands.specs.Words.{Command, Compile, Play}
+use Rattle.commands.specs.Files.{IsPatchFile, IsRenderFile, IsPlayFile, least_limit}
+use Rattle.commands.specs.Words.{Command, Compile, Render, Play}
 use Rattle.run_lines.specs.declared.ending.RunEnd.{RunEnd}
 use Rattle.run_lines.specs.declared.ending.RunEnd.TheVariants as run
 
@@ -54,25 +54,39 @@ status_of_run run.PutFailed = status.WriteFault target.Out
 status_of_run (run.ListenerFailed number) = status.ListenerFault number
 status_of_run run.NoMemory = status.NoMemory
 
+-- the status of a patch's run whose module's run ended so: the reductions are those that the turns are worth
+abbrev pub status_of_patch_run : RunEnd → Status
+status_of_patch_run (run.StepsSpent at) = status.TurnsSpent at
+status_of_patch_run end = status_of_run end
+
 -- ---- which statuses a command can answer at all
 
 -- the files that a command reads
 abbrev pub Reads : Command → FileRef → Type 0
 Reads (Compile manifest out) f = IsPatchFile f
+Reads (Render manifest input turns) f = IsRenderFile f
 Reads (Play wasm input steps) f = IsPlayFile f
 
 -- what a command writes
 abbrev pub Writes : Command → Target → Type 0
 Writes (Compile manifest out) t = t ≡ target.File
+Writes (Render manifest input turns) t = t ≡ target.Out
 Writes (Play wasm input steps) t = t ≡ target.Out
 
--- the commands that run a module
+-- the commands that run a patch
+abbrev pub RunsPatch : Command → Type 0
+RunsPatch (Compile manifest out) = ⊥
+RunsPatch (Render manifest input turns) = Unit {0}
+RunsPatch (Play wasm input steps) = ⊥
+
+-- the commands that run a module that they are given
 abbrev pub RunsModule : Command → Type 0
 RunsModule (Compile manifest out) = ⊥
+RunsModule (Render manifest input turns) = ⊥
 RunsModule (Play wasm input steps) = Unit {0}
 
--- A command answers for the files that it reads, also by refusing them, and for what it writes; one that runs a module
--- answers for the run and for the listeners. No command reads a state or runs a patch so far.
+-- A command answers for the files that it reads, also by refusing them, and for what it writes; one that runs a patch or a
+-- module answers for the run and for the listeners. No command reads a state so far.
 abbrev pub MayAnswer : Command → Status → Type 0
 MayAnswer command status.Ok = Unit {0}
 MayAnswer command status.NoMemory = Unit {0}
@@ -82,10 +96,11 @@ MayAnswer command (status.TooBig f length) = Reads command f
 MayAnswer command (status.Refused r) = Reads command file.Manifest
 MayAnswer command (status.InputRefused fault) = Reads command file.Input
 MayAnswer command (status.ModuleRefused refused) = Reads command file.Module
+MayAnswer command (status.TurnsSpent at) = RunsPatch command
 MayAnswer command (status.StepsSpent at) = RunsModule command
 MayAnswer command (status.Trapped at) = RunsModule command
 MayAnswer command (status.WriteFault t) = Writes command t
-MayAnswer command (status.ListenerFault number) = RunsModule command
+MayAnswer command (status.ListenerFault number) = RunsPatch command ⊎ RunsModule command
 MayAnswer command _ = ⊥
 
 -- ---- what stands with a status

@@ -5,13 +5,14 @@ ghost use Rattle.item_lines.specs.Telling.{mouth};
 ghost use Rattle.commands.specs.Compile.{IsDone};
 ghost use Rattle.commands.specs.Due.{IsDue};
 ghost use Rattle.commands.specs.Files.{KeepsUnwritten};
-ghost use Rattle.commands.specs.Playing.{TellsWords};
+ghost use Rattle.commands.specs.Told.{TellsWords};
 ghost use Rattle.commands.specs.Statuses.{MayAnswer, HasCause, OnExplained, OnUnwritten};
 ghost use Rattle.commands.specs.Steps.{EndsWords, ended};
 ghost use Rattle.commands.specs.Words.{command_of, file_written};
 
 use crate::compile::compile;
 use crate::play::play_files;
+use crate::render::render_files;
 use crate::report::heard;
 use crate::status::Status;
 use crate::stop::Stop;
@@ -58,6 +59,16 @@ fn carry_out<F: Folder, O: Sink, L: Listener>(
                 out: file,
             },
         ) => done(compile(alloc, folder, manifest, file), Work::Quiet),
+        Some(
+            Command::Render {
+                manifest,
+                input,
+                turns,
+            },
+        ) => done(
+            render_files(alloc, folder, manifest, input, turns, out, listeners),
+            Work::Heard,
+        ),
         Some(Command::Play { wasm, input, steps }) => done(
             play_files(alloc, folder, wasm, input, steps, out, listeners),
             Work::Heard,
@@ -71,8 +82,8 @@ fn carry_out<F: Folder, O: Sink, L: Listener>(
 
 /// Carries out the words of a command line, those after the program's name. The files are those of `folder`,
 /// lines go to `out`, and a line on what went wrong goes to `err`. `compile M OUT` puts no line and tells the listeners
-/// nothing. `play WASM INPUT STEPS` puts the lines of a run and has the listeners hear it; with `Ok` a line on each
-/// listener goes to `err`: docs/COMMANDS.md.
+/// nothing. `render M INPUT TURNS` and `play WASM INPUT STEPS` put the lines of a run and have the listeners hear it; with
+/// `Ok` a line on each listener goes to `err`: docs/COMMANDS.md.
 pub fn run<F: Folder, O: Sink, E: Sink, L: Listener>(
     alloc: Global,
     words: &[String],
@@ -108,8 +119,8 @@ pub fn run<F: Folder, O: Sink, E: Sink, L: Listener>(
     // With a status other than `Ok` that one is as before too, unless it couldn't be written.
     ensures unwritten { OnUnwritten result ((F.seen folder.new).holds ≡ (F.seen folder.old).holds) }
 
-    // Lines are put, and items heard, for exactly the run of the module, up to an item that isn't put or heard, and the
-    // answer is that of its end; any other answer leaves output and listeners as they are.
+    // Lines are put, and items heard, for exactly the run of the patch or of the module, up to an item that isn't put or
+    // heard, and the answer is that of its end; any other answer leaves output and listeners as they are.
     ensures told { TellsWords (command_of (map string_bytes words.now)) (F.seen folder.old).holds
         (record { out = mouth (O.written out.old) (O.faults out.old) (O.refusals out.old); ears = map (λ l. ear (L.heard l) (L.count l) (L.faults l) (L.refusals l)) listeners.old.items })
         (record { out = mouth (O.written out.new) (O.faults out.new) (O.refusals out.new); ears = map (λ l. ear (L.heard l) (L.count l) (L.faults l) (L.refusals l)) listeners.new.items })

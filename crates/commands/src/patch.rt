@@ -5,7 +5,7 @@ ghost use Rattle.cm_front.specs.Phases.{bytes_in};
 ghost use Rattle.cm_io.specs.Seen.{IfTold, OnlyRead};
 ghost use Rattle.patch_manifest.specs.SourceName.{file_name};
 ghost use Rattle.commands.specs.declared.status.FileRef.TheVariants.{Source};
-ghost use Rattle.commands.specs.Patch.{AreNames, NamesSources, SourcesOf, HaveTexts, NamePatch, NamedPatchOf, RefusesManifest, RefusesTexts, NoSources, LackTexts, NoPatch, all_sources};
+ghost use Rattle.commands.specs.Patch.{AreNames, NameSome, NamesSources, SourcesOf, HaveTexts, NamePatch, NamedPatchOf, RefusesManifest, RefusesTexts, NoSources, LackTexts, NoPatch, all_sources};
 ghost use Rattle.commands.specs.Files.{HasFile, IsPatchFile, Unread, least_limit};
 ghost use Rattle.commands.specs.Steps.{Stopped, Refuses};
 
@@ -23,6 +23,7 @@ use std::alloc::Global;
 pub fn read_patch<F: Folder>(alloc: Global, folder: &mut F, manifest: &str) -> Result<Through, Stop>
     ensures only_read { OnlyRead (F.seen folder.old) (F.seen folder.new) }
     ensures found { IfOk result (λ t. IfTold (F.seen folder.old) (λ files. NamedPatchOf files manifest.now t.input t.output)) }
+    ensures some { IfOk result (λ t. NameSome t.input t.output) }
     ensures names { IfOk result (λ t. AreNames t.input t.output) }
     ensures stopped { IfErr result (λ stop. Stopped (F.seen folder.old) (F.seen folder.new) IsPatchFile (λ files. NoPatch files manifest.now) stop.status) }
 {
@@ -109,6 +110,7 @@ fn meaning(alloc: Global, names: &[Name], texts: &Sources) -> Result<Through, St
     requires few { length texts.now ≤ 64 }
     requires bytes { bytes_in texts.now ≤ all_sources }
     ensures found { IfOk result (λ t. NamePatch texts.now t.input t.output) }
+    ensures some { IfOk result (λ t. NameSome t.input t.output) }
     ensures names { IfOk result (λ t. AreNames t.input t.output) }
     ensures stopped { IfErr result (λ stop. Refuses (RefusesTexts texts.now) stop.status) }
 {

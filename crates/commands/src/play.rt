@@ -9,10 +9,12 @@ ghost use Rattle.item_lines.specs.Hearing.{ear};
 ghost use Rattle.item_lines.specs.Telling.{mouth};
 ghost use Rattle.wasm_tree.specs.Section.{ends_of};
 ghost use Rattle.wasm_tree.specs.Valid.{Valid as IsValid};
+ghost use Rattle.commands.specs.declared.status.FileRef.TheVariants.{Input};
 ghost use Rattle.commands.specs.Files.{IsPlayFile};
-ghost use Rattle.commands.specs.Playing.{SpellsValid, HasModule, RefusesModule, NoModule, HasScript, RefusesScript, NoScript, RunIsTold, TellsFor};
+ghost use Rattle.commands.specs.Playing.{SpellsValid, HasModule, RefusesModule, NoModule, HasScript, RefusesScript, NoScript, RunIsTold};
 ghost use Rattle.commands.specs.Statuses.{status_of_module, status_of_run};
 ghost use Rattle.commands.specs.Steps.{Ends, Stopped, ended};
+ghost use Rattle.commands.specs.Told.{TellsFor};
 ghost use Rattle.commands.specs.Words.{Play};
 
 use crate::files::read_file;
@@ -90,7 +92,7 @@ fn refusal(fail: ModuleFail) -> Status
 }
 
 /// The script that a file holds for these endpoints.
-fn read_input<F: Folder>(
+pub fn read_input<F: Folder>(
     alloc: Global,
     folder: &mut F,
     name: &str,
@@ -100,7 +102,7 @@ fn read_input<F: Folder>(
     ensures only_read { OnlyRead (F.seen folder.old) (F.seen folder.new) }
     ensures found { IfOk result (λ script. IfTold (F.seen folder.old) (λ files. HasScript files name.now host.now script)) }
     ensures belongs { IfOk result (IsScriptFor host.now) }
-    ensures stopped { IfErr result (Stopped (F.seen folder.old) (F.seen folder.new) IsPlayFile (λ files. NoScript files name.now host.now)) }
+    ensures stopped { IfErr result (Stopped (F.seen folder.old) (F.seen folder.new) (λ f. f ≡ Input) (λ files. NoScript files name.now host.now)) }
 {
     let bytes = read_file(alloc, folder, name, FileRef::Input, SCRIPT_BYTES)?;
     script_of(alloc, bytes.as_slice(), host)

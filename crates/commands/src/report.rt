@@ -31,6 +31,7 @@ fn run_line(alloc: Global, status: &Status) -> Result<Option<Vec<u8>>, AllocErro
     let line = match status {
         Status::InputRefused(fault) => fault_line(alloc, fault)?,
         Status::ModuleRefused(refused) => module_line(alloc, refused)?,
+        Status::TurnsSpent(at) => part_line(alloc, "turns spent", *at)?,
         Status::StepsSpent(at) => part_line(alloc, "steps spent", *at)?,
         Status::Trapped(at) => part_line(alloc, "trapped", *at)?,
         Status::ListenerFault(number) => format!(in alloc; "listener fault {number}\n")?,

@@ -1,5 +1,5 @@
 ghost use Rattle.std.specs.Prelude.{◌≡◌};
-ghost use Rattle.commands.specs.Statuses.{number_of, status_of_run};
+ghost use Rattle.commands.specs.Statuses.{number_of, status_of_patch_run, status_of_run};
 
 use cm_base::{Fail, FormFault, NoMemory, Refused};
 use module_player::At;
@@ -56,6 +56,17 @@ impl Status {
             RunEnd::PutFailed => Status::WriteFault(Target::Out),
             RunEnd::ListenerFailed(number) => Status::ListenerFault(number),
             RunEnd::NoMemory => Status::NoMemory,
+        }
+    }
+
+    /// The status of a run of a patch whose module's run ended so. The module was given as many reductions as the turns
+    /// are worth.
+    pub(crate) fn of_patch_run(end: RunEnd) -> Status
+        ensures { result ≡ status_of_patch_run end }
+    {
+        match end {
+            RunEnd::StepsSpent(at) => Status::TurnsSpent(at),
+            other => Status::of_run(other),
         }
     }
 

@@ -2,9 +2,9 @@
 
 ghost use Rattle.std.specs.Prelude.{◌≡◌, ◌≤◌, ◌∷◌, map, string_bytes, IfSome};
 ghost use Rattle.std.specs.Option.{option_map};
-ghost use Rattle.commands.specs.Words.{command_of, command_playing, compile_of, play_of, meaning, most_steps, next_number as the_next, number_behind, number_within};
+ghost use Rattle.commands.specs.Words.{GivesTurns, command_of, command_playing, command_rendering, compile_of, play_of, render_of, meaning, most_steps, most_turns, next_number as the_next, number_behind, number_within};
 
-use cm_base::limits::STEPS;
+use cm_base::limits::{STEPS, TURNS};
 
 /// What the words ask for.
 #[derive(Clone, Copy, Debug)]
@@ -15,6 +15,15 @@ pub enum Command<'a> {
         manifest: &'a str,
         /// The name of the file to write.
         out: &'a str,
+    },
+    /// Compile the patch of a manifest, and run it over an input script.
+    Render {
+        /// The manifest's name.
+        manifest: &'a str,
+        /// The script's name.
+        input: &'a str,
+        /// How many turns each part of the run is given.
+        turns: u64,
     },
     /// Play a module over an input script.
     Play {
@@ -29,11 +38,15 @@ pub enum Command<'a> {
 
 /// The command that the words are.
 pub fn read_words(words: &[String]) -> Option<Command<'_>>
-    ensures { option_map meaning result ≡ command_of (map string_bytes words.now) }
+    ensures meant { option_map meaning result ≡ command_of (map string_bytes words.now) }
+    ensures turns { IfSome result GivesTurns }
 {
     let (name, words) = words.split_first()?;
     if name.as_str() == "compile" {
         return read_compile(words);
+    }
+    if name.as_str() == "render" {
+        return read_render(words);
     }
     if name.as_str() == "play" {
         return read_play(words);
@@ -43,7 +56,8 @@ pub fn read_words(words: &[String]) -> Option<Command<'_>>
 
 /// The command of these words after `compile`: two names that aren't empty.
 fn read_compile(words: &[String]) -> Option<Command<'_>>
-    ensures { option_map meaning result ≡ compile_of (map string_bytes words.now) }
+    ensures meant { option_map meaning result ≡ compile_of (map string_bytes words.now) }
+    ensures turns { IfSome result GivesTurns }
 {
     let (manifest, words) = words.split_first()?;
     let (out, words) = words.split_first()?;
@@ -56,9 +70,48 @@ fn read_compile(words: &[String]) -> Option<Command<'_>>
     None
 }
 
+/// The command of these words after `render`: two names that aren't empty, and a number.
+fn read_render(words: &[String]) -> Option<Command<'_>>
+    ensures meant { option_map meaning result ≡ render_of (map string_bytes words.now) }
+    ensures turns { IfSome result GivesTurns }
+{
+    let (manifest, words) = words.split_first()?;
+    let (input, words) = words.split_first()?;
+    read_turns(manifest.as_str(), input.as_str(), words)
+}
+
+/// The command that renders these files, of the words that follow theirs.
+fn read_turns<'a>(manifest: &'a str, input: &'a str, words: &[String]) -> Option<Command<'a>>
+    ensures meant { option_map meaning result ≡ render_of (manifest.now ∷ input.now ∷ map string_bytes words.now) }
+    ensures turns { IfSome result GivesTurns }
+{
+    let (turns, words) = words.split_first()?;
+    if words.is_empty() {
+        return render_command(manifest, input, turns.as_bytes());
+    }
+    None
+}
+
+/// The command that renders these files, where the names aren't empty and the last word is a number of turns.
+fn render_command<'a>(manifest: &'a str, input: &'a str, turns: &[u8]) -> Option<Command<'a>>
+    ensures meant { option_map meaning result ≡ command_rendering manifest.now input.now turns.now }
+    ensures turns { IfSome result GivesTurns }
+{
+    if manifest.is_empty() || input.is_empty() {
+        return None;
+    }
+    let turns = read_number(turns, TURNS)?;
+    Some(Command::Render {
+        manifest,
+        input,
+        turns,
+    })
+}
+
 /// The command of these words after `play`: two names that aren't empty, and a number.
 fn read_play(words: &[String]) -> Option<Command<'_>>
-    ensures { option_map meaning result ≡ play_of (map string_bytes words.now) }
+    ensures meant { option_map meaning result ≡ play_of (map string_bytes words.now) }
+    ensures turns { IfSome result GivesTurns }
 {
     let (wasm, words) = words.split_first()?;
     let (input, words) = words.split_first()?;
@@ -67,7 +120,8 @@ fn read_play(words: &[String]) -> Option<Command<'_>>
 
 /// The command that plays these files, of the words that follow theirs.
 fn read_steps<'a>(wasm: &'a str, input: &'a str, words: &[String]) -> Option<Command<'a>>
-    ensures { option_map meaning result ≡ play_of (wasm.now ∷ input.now ∷ map string_bytes words.now) }
+    ensures meant { option_map meaning result ≡ play_of (wasm.now ∷ input.now ∷ map string_bytes words.now) }
+    ensures turns { IfSome result GivesTurns }
 {
     let (steps, words) = words.split_first()?;
     if words.is_empty() {
@@ -78,47 +132,53 @@ fn read_steps<'a>(wasm: &'a str, input: &'a str, words: &[String]) -> Option<Com
 
 /// The command that plays these files, where the names aren't empty and the last word is a number of reductions.
 fn play_command<'a>(wasm: &'a str, input: &'a str, steps: &[u8]) -> Option<Command<'a>>
-    ensures { option_map meaning result ≡ command_playing wasm.now input.now steps.now }
+    ensures meant { option_map meaning result ≡ command_playing wasm.now input.now steps.now }
+    ensures turns { IfSome result GivesTurns }
 {
     if wasm.is_empty() || input.is_empty() {
         return None;
     }
-    let steps = read_number(steps)?;
+    let steps = read_number(steps, STEPS)?;
     Some(Command::Play { wasm, input, steps })
 }
 
-/// The number of reductions that a word gives.
-fn read_number(word: &[u8]) -> Option<u64>
-    ensures { result ≡ number_within most_steps word.now }
+/// The number that a word gives, up to this limit.
+fn read_number(word: &[u8], most: u64) -> Option<u64>
+    requires { most ≤ most_steps }
+    ensures number { result ≡ number_within most word.now }
+    ensures within { IfSome result (λ number. number ≤ most) }
 {
     if word.is_empty() || word.len() > 20 {
         return None;
     }
-    read_digits(word)
+    read_digits(word, most)
 }
 
-/// The number that decimal digits make, up to the greatest number of reductions.
-fn read_digits(digits: &[u8]) -> Option<u64>
-    ensures { result ≡ number_behind most_steps 0 digits.now }
+/// The number that decimal digits make, up to this limit.
+fn read_digits(digits: &[u8], most: u64) -> Option<u64>
+    requires { most ≤ most_steps }
+    ensures number { result ≡ number_behind most 0 digits.now }
+    ensures within { IfSome result (λ number. number ≤ most) }
 {
     let mut number = 0;
     for digit in digits {
-        number = next_number(number, *digit)?;
+        number = next_number(number, *digit, most)?;
     }
     Some(number)
 }
 
-/// The number that one more decimal digit makes of a number.
-fn next_number(number: u64, digit: u8) -> Option<u64>
-    requires { number ≤ most_steps }
-    ensures next { result ≡ the_next most_steps number digit }
-    ensures within { IfSome result (λ next. next ≤ most_steps) }
+/// The number that one more decimal digit makes of a number, up to this limit.
+fn next_number(number: u64, digit: u8, most: u64) -> Option<u64>
+    requires most { most ≤ most_steps }
+    requires number { number ≤ most }
+    ensures next { result ≡ the_next most number digit }
+    ensures within { IfSome result (λ next. next ≤ most) }
 {
     if !digit.is_ascii_digit() {
         return None;
     }
     let next = number * 10 + u64::from(digit - b'0');
-    if next > STEPS {
+    if next > most {
         return None;
     }
     Some(next)

@@ -1,3 +1,4 @@
+use Rattle.std.proofs.Common.{◌≡◌, refl}
 use Rattle.std.proofs.lemmas.Result.{err_from_is_err_and}
 use Rattle.commands.specs.declared.status.FileRef.TheVariants as file
 use Rattle.commands.proofs.PlayLemmas.{unread_play, script_stop}
@@ -7,7 +8,7 @@ use Rattle.commands.proofs.play.read_input.Goals as goal
 pub returns-in_err-bytes-clause-stopped : goal.returns-in_err-bytes-clause-stopped
 returns-in_err-bytes-clause-stopped g c =
     let p = err_from_is_err_and c.from_residual.result c.from_residual.ensures.1 in
-    rw (p.1, p.2) (unread_play _ _ file.Input c.args.name.now 8388608 _ _ tt c.in_err-bytes.ensures.stopped)
+    rw (p.1, p.2) (unread_play _ _ (λ f. f ≡ file.Input) file.Input c.args.name.now 8388608 _ _ refl c.in_err-bytes.ensures.stopped)
 
 pub returns-clause-stopped : goal.returns-clause-stopped
 returns-clause-stopped g c =

@@ -11,8 +11,8 @@ printf '\0asm\1\0\0\0\1\4\1\140\0\0' >"$dir/short.wasm"
 printf '\0asm\2\0\0\0' >"$dir/version.wasm"
 head -c 33554433 /dev/zero >"$dir/big.wasm"
 
-expect 1 "usage: wasm_copy IN [OUT]"
-expect 1 "usage: wasm_copy IN [OUT]" "$dir/long.wasm" "$dir/out.wasm" more
+expect 1 "usage: wasm_copy IN [OUT [check]]"
+expect 1 "usage: wasm_copy IN [OUT [check]]" "$dir/long.wasm" "$dir/out.wasm" more
 expect 1 "a name isn't UTF-8" "$dir/long.wasm" "$dir/"$'\xff'
 expect 1 "a name isn't UTF-8" $'\xc3'
 expect 1 "refused Header 4" "$dir/version.wasm"
@@ -27,6 +27,14 @@ expect 1 "can't write /dev/full" "$dir/long.wasm" /dev/full
 expect 0 "" "$dir/long.wasm"
 expect 0 "" "$dir/long.wasm" "$dir/out.wasm"
 same "$dir/out.wasm" "$dir/short.wasm"
+
+# Where it is checked, a module is copied only if it is valid. The import section of the other one stands at byte 19.
+sed 's/emit/emut/' crates/wasm_copy/data/in.wasm >"$dir/import.wasm"
+expect 1 "refused Interface 19" "$dir/import.wasm" "$dir/checked.wasm" check
+[ -e "$dir/checked.wasm" ] && differs "a module that isn't valid was copied"
+expect 0 "" "$dir/import.wasm" "$dir/checked.wasm"
+expect 0 "" crates/wasm_copy/data/in.wasm "$dir/checked.wasm" check
+expect 1 "usage: wasm_copy IN [OUT [check]]" "$dir/long.wasm" "$dir/checked.wasm" check more
 
 # The longest file that is taken, of many functions in the shortest spelling.
 if command -v python3 >/dev/null; then

@@ -1,9 +1,10 @@
 //! Copies a module in its shortest spelling: `wasm_copy IN OUT`. It is the round trip of the reader and the
 //! writer as one call with a contract, and what `bench/` times. `wasm_copy IN` reads the module alone, and so
-//! tells whether the file spells one. OUT is written in place. Where nothing is copied, a line on standard error
-//! says why, and the status is 1.
+//! tells whether the file spells one; `wasm_copy IN OUT check` copies it only where it is valid. OUT is written in
+//! place. Where nothing is copied, a line on standard error says why, and the status is 1.
 #![tactic(auto)]
 
+mod checking;
 mod round_trip;
 mod stop;
 #[cfg(test)]
@@ -11,6 +12,7 @@ mod tests;
 
 ghost use Rattle.std.specs.Prelude.{◌≤◌, IfOk, length};
 
+use checking::checked;
 use cm_base::limits::MODULE_BYTES;
 use round_trip::shortened;
 use std::alloc::AllocError;
@@ -37,8 +39,13 @@ fn module_bytes<R: Files + AllocGlobal>(rt: &R, from: &str) -> Result<Vec<u8>, S
     }
 }
 
-/// Copies the file to the other, if there is one.
-fn copy<R: Files + AllocGlobal>(rt: &R, from: &str, to: Option<&str>) -> Result<(), Stop> {
+/// Copies the file to the other, if there is one; where it `is_checked`, only a valid module.
+fn copy<R: Files + AllocGlobal>(
+    rt: &R,
+    from: &str,
+    to: Option<&str>,
+    is_checked: bool,
+) -> Result<(), Stop> {
     let bytes = module_bytes(rt, from)?;
     let Some(to) = to else {
         return match read_module(rt.alloc(), &bytes) {
@@ -46,6 +53,11 @@ fn copy<R: Files + AllocGlobal>(rt: &R, from: &str, to: Option<&str>) -> Result<
             Err(fail) => Err(Stop::Module(fail)),
         };
     };
+    if is_checked {
+        if let Err(fail) = checked(rt.alloc(), &bytes) {
+            return Err(Stop::Module(fail));
+        }
+    }
     match shortened(rt.alloc(), &bytes) {
         Ok(short) => match fs::write(rt, to, short.as_slice()) {
             Ok(()) => Ok(()),
@@ -64,11 +76,17 @@ fn line_of_words<R: Files + Env + AllocGlobal>(rt: &R) -> Result<Option<Vec<u8>>
         }
         Err(_) => return Err(AllocError),
     };
-    let (Some(from), to, None) = (words.next(), words.next(), words.next()) else {
+    let (Some(from), to, third, None) = (words.next(), words.next(), words.next(), words.next())
+    else {
         return Ok(Some(line_of(rt.alloc(), &Stop::Usage, "", "")?));
     };
+    let is_checked = match &third {
+        Some(word) if word.as_str() == "check" => true,
+        Some(_) => return Ok(Some(line_of(rt.alloc(), &Stop::Usage, "", "")?)),
+        None => false,
+    };
     let to = to.as_ref().map(|to| to.as_str());
-    match copy(rt, from.as_str(), to) {
+    match copy(rt, from.as_str(), to, is_checked) {
         Ok(()) => Ok(None),
         Err(stop) => Ok(Some(line_of(rt.alloc(), &stop, from.as_str(), to.unwrap_or(""))?)),
     }

@@ -8,7 +8,7 @@ use wasm_tree::ModuleFail;
 /// Why nothing is copied.
 #[derive(Drop)]
 pub enum Stop {
-    /// The words aren't one name or two.
+    /// The words aren't one name, two, or two and `check`.
     Usage,
     /// A word isn't UTF-8.
     NotText,
@@ -22,7 +22,7 @@ pub enum Stop {
 /// The line of it. `from` and `to` are the names of the files.
 pub fn line_of(alloc: Global, stop: &Stop, from: &str, to: &str) -> Result<Vec<u8>, AllocError> {
     match stop {
-        Stop::Usage => words_line(alloc, "usage: wasm_copy IN [OUT]", ""),
+        Stop::Usage => words_line(alloc, "usage: wasm_copy IN [OUT [check]]", ""),
         Stop::NotText => words_line(alloc, "a name isn't UTF-8", ""),
         Stop::CannotRead => words_line(alloc, "can't read ", from),
         Stop::TooBig => words_line(alloc, "too big ", from),

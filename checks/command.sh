@@ -83,6 +83,14 @@ expect 4 "too big $dir/long.wasm" play "$dir/long.wasm" "$script" 100
 "$built" play "$out" "$script" 100 >/dev/full 2>"$dir/stderr"
 [ $? -eq 12 ] || differs "a full device isn't told"
 holds "$dir/stderr" "write fault out"
+
+# a pipe that nobody reads takes no line either, and the program isn't ended by a signal
+mkfifo "$dir/pipe"
+exec 4<>"$dir/pipe" 5>"$dir/pipe" 4>&-
+"$built" play "$out" "$script" 100 >&5 2>"$dir/stderr"
+[ $? -eq 12 ] || differs "a pipe that nobody reads isn't told"
+holds "$dir/stderr" "write fault out"
+exec 5>&-
 "$built" play "$out" "$script" 100 >&- 2>"$dir/stderr"
 [ $? -eq 12 ] || differs "a closed stream isn't told"
 exit "$failed"

@@ -1,5 +1,5 @@
 #!/usr/bin/env bash
-# The deepest trees of twelve kinds are read and dropped within 2 MiB of stack, and deeper ones are refused: a nest of each
+# The deepest trees of seventeen kinds are read and dropped within 2 MiB of stack, and deeper ones are refused: a nest of each
 # kind is made one level deeper at a time past the one at which it is refused.
 set -u
 CDPATH='' cd -- "$(dirname -- "$0")/.." || exit 2
@@ -28,7 +28,12 @@ nest() {
     indices) echo "let a = b$(times "$2" '[b')$(times "$2" ']');" ;;
     blocks) echo "void f() { $(times "$2" '{ ')$(times "$2" '} ')}" ;;
     elses) echo "void f() { $(times "$2" 'if (a) ; else '); }" ;;
+    ifs) echo "void f() { $(times "$2" 'if (a) '); }" ;;
     loops) echo "void f() { $(times "$2" 'loop (2) ')advance(); }" ;;
+    whiles) echo "void f() { $(times "$2" 'while (a) '); }" ;;
+    counters) echo "void f() { $(times "$2" 'for (wrap<4> i) '); }" ;;
+    declared) echo "void f() { $(times "$2" 'for (int i = 0; ; ) '); }" ;;
+    assigned) echo "void f() { $(times "$2" 'for (a = 0; ; ++a) '); }" ;;
     namespaces) echo "$(times "$2" 'namespace n { ')$(times "$2" '} ')" ;;
     esac
 }
@@ -41,7 +46,8 @@ cause() {
     ) | sed -n 's/^refused \([A-Za-z]*\) .*/\1/p'
 }
 
-for kind in parentheses signs sums choices calls casts selections indices blocks elses loops namespaces; do
+for kind in parentheses signs sums choices calls casts selections indices blocks elses ifs loops whiles counters \
+    declared assigned namespaces; do
     deepest=0
     for ((count = 100; count < 300; count++)); do
         nest "$kind" "$count" >"$dir/p.cmajor"

@@ -7,8 +7,6 @@
 mod fitting;
 mod numbers;
 mod operations;
-#[cfg(test)]
-mod tests;
 
 pub use fitting::{cast, fitted, known};
 pub use numbers::{computed, computed_alone};

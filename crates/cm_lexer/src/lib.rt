@@ -19,6 +19,3 @@ mod word;
 
 pub use cut::lex;
 pub use laws::{no_fault_beside_tokens, tokens_are_unique, tokens_or_fault};
-
-#[cfg(test)]
-mod tests;

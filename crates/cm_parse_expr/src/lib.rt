@@ -20,6 +20,3 @@ mod written;
 pub use parse::{parse_expr, read_args, read_expr};
 pub use paths::path as read_path;
 pub use written::{read_arg, read_type};
-
-#[cfg(test)]
-mod tests;

@@ -1,15 +1,17 @@
-//! Rows for the lexer and the parser, as data: `grammar_rows` reads rows from standard input (`stdin` has them, and says
-//! what a line means), cuts the text of each row into tokens with `lex`, reads the tokens with `parse`, prints each answer
-//! that isn't the expected one, and at the end how many rows there are and how many differ. It shows what no contract can:
-//! that these calls answer otherwise than by want of memory. The expected answers were found by hand from the rules of
-//! docs/LANGUAGE.md, "Tokens" and "Grammar".
+//! Rows for the lexer and the parsers, as data: `grammar_rows` reads rows from standard input (`stdin` has them, and says
+//! what a line means), cuts the text of each row into tokens with `lex`, reads the tokens with `parse` as a file or with
+//! `parse_expr` as an expression, judges the names of a file by `Scopes::build`, `check_unit` and `check_apart`, walks over it
+//! by `walk_patch`, prints each answer that isn't the expected one, and at the end how many rows there are and how many
+//! differ. It shows what no contract can: that these calls answer otherwise than by want of memory. The expected
+//! answers were found by hand from the rules of docs/LANGUAGE.md, "Tokens", "Grammar" and "Names".
 //!
 //! Nothing is proved of the rows but that reading them is safe.
 #![tactic(auto)]
 
 mod answers;
+mod names;
 mod rows;
-mod text;
+mod written;
 
 use rows::Rows;
 use std::alloc::AllocError;

@@ -1,8 +1,51 @@
 // Rows of texts and the answers that are expected of them.
 
-use crate::answers::{file_answer, tokens_answer};
-use crate::text::Text;
+use crate::answers::{expression_answer, extent_answer, file_answer, tokens_answer};
+use crate::names::{names_answer, steps_answer, units_answer, words_answer};
+use row_texts::Text;
 use std::alloc::{AllocError, Global};
+
+/// The answer of a row of tokens, files and expressions, and what is expected, where the line ends one.
+fn answered_text<'a>(
+    alloc: Global,
+    line: &'a str,
+    bytes: &[u8],
+) -> Result<Option<(&'a str, String)>, AllocError> {
+    if let Some(expected) = line.strip_prefix("= ") {
+        return Ok(Some((expected, file_answer(alloc, bytes)?)));
+    }
+    if let Some(expected) = line.strip_prefix("tokens ") {
+        return Ok(Some((expected, tokens_answer(alloc, bytes)?)));
+    }
+    if let Some(expected) = line.strip_prefix("expr ") {
+        return Ok(Some((expected, expression_answer(alloc, bytes)?)));
+    }
+    if let Some(expected) = line.strip_prefix("extent ") {
+        return Ok(Some((expected, extent_answer(alloc, bytes)?)));
+    }
+    Ok(None)
+}
+
+/// The answer of a row of names, and what is expected, where the line ends one.
+fn answered_names<'a>(
+    alloc: Global,
+    line: &'a str,
+    bytes: &[u8],
+) -> Result<Option<(&'a str, String)>, AllocError> {
+    if let Some(expected) = line.strip_prefix("names ") {
+        return Ok(Some((expected, names_answer(alloc, bytes)?)));
+    }
+    if let Some(expected) = line.strip_prefix("units ") {
+        return Ok(Some((expected, units_answer(alloc, bytes)?)));
+    }
+    if let Some(expected) = line.strip_prefix("words ") {
+        return Ok(Some((expected, words_answer(alloc, bytes)?)));
+    }
+    if let Some(expected) = line.strip_prefix("steps ") {
+        return Ok(Some((expected, steps_answer(alloc, bytes)?)));
+    }
+    Ok(None)
+}
 
 /// The text of the row that is read, and counts of the rows so far.
 #[derive(Drop)]
@@ -61,17 +104,15 @@ impl Rows {
         if line.is_empty() || line.starts_with('#') {
             return Ok(None);
         }
-        if let Some(expected) = line.strip_prefix("= ") {
-            let answer = file_answer(alloc, self.text.as_bytes())?;
+        if let Some((expected, answer)) = answered_text(alloc, line, self.text.as_bytes())? {
             self.end(alloc);
             return self.compare(alloc, expected, answer.as_str());
         }
-        if let Some(expected) = line.strip_prefix("tokens ") {
-            let answer = tokens_answer(alloc, self.text.as_bytes())?;
+        if let Some((expected, answer)) = answered_names(alloc, line, self.text.as_bytes())? {
             self.end(alloc);
             return self.compare(alloc, expected, answer.as_str());
         }
-        if self.text.take_line(line)? {
+        if self.text.take_line(alloc, line)? {
             return Ok(None);
         }
         self.compare(alloc, "a line of rows", line)

@@ -12,6 +12,3 @@ mod streams;
 mod values;
 
 pub use script::read_script;
-
-#[cfg(test)]
-mod tests;

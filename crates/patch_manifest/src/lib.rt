@@ -7,8 +7,6 @@
 mod manifest;
 mod naming;
 mod properties;
-#[cfg(test)]
-mod tests;
 
 pub use manifest::{Manifest, read_manifest};
 pub use naming::source_name;

@@ -7,8 +7,6 @@ mod exprs;
 mod simple;
 mod steps;
 mod stmts;
-#[cfg(test)]
-mod tests;
 
 pub use exprs::{walk_base, walk_expr, walk_exprs, walk_optional, walk_type};
 pub use simple::{walk_local, walk_simple};

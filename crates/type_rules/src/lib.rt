@@ -11,8 +11,6 @@ mod operators;
 mod same;
 mod shape;
 mod size;
-#[cfg(test)]
-mod tests;
 mod values;
 
 pub use conversion::{converts, holds, is_bool, is_number};

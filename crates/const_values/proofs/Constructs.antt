@@ -1,5 +1,5 @@
 -- What is answered for an expression, from what is answered for its parts, kind by kind.
-use Rattle.std.specs.Prelude.{◌≡◌, refl, ℤ, Bool, true, false, not, ◌&&◌, ◌||◌, if◌then◌else◌, List, [], ◌++◌, Option, Some, None, is_some, option_map, option_and_then, Result, Ok, Err, IsErr, IsErrAnd, FitsSigned}
+use Rattle.std.specs.Prelude.{◌≡◌, refl, ℤ, Bool, true, false, ◌&&◌, ◌||◌, if◌then◌else◌, List, [], ◌++◌, Option, Some, None, is_some, option_map, option_and_then, Result, Ok, Err, IsErr, IsErrAnd, FitsSigned}
 use Rattle.std.specs.Int.{w64}
 use Rattle.std.proofs.Common.{ap, sym, ◌∙◌, subst, inl}
 use Rattle.cm_base.specs.declared.cause.Cause.{Cause}
@@ -15,7 +15,6 @@ use Rattle.cm_tree.specs.declared.path.Word.{Word}
 use Rattle.cm_tree.specs.declared.operator.Unary.{Unary}
 use Rattle.cm_tree.specs.declared.operator.Binary.{Binary}
 use Rattle.cm_tree.specs.declared.expr.Expr.{Expr}
-use Rattle.cm_tree.specs.declared.expr.Base.{Base}
 use Rattle.cm_tree.specs.declared.expr.Expr.TheVariants as e
 use Rattle.cm_tree.specs.Levels.{place}
 use Rattle.cm_types.specs.declared.valued.Valued.{Valued as CodeValued}
@@ -33,7 +32,7 @@ use Rattle.cm_meaning.specs.TypeRows.{rows_of, operand_rows, is_division, diviso
 use Rattle.cm_meaning.specs.Exact.{In, in_left, in_right}
 use Rattle.const_values.specs.declared.names.Argument.{Argument}
 use Rattle.const_values.specs.Names.{Known, means}
-use Rattle.const_values.specs.Plain.{is_plain, is_plain-Number, is_plain-Call, is_plain-Construct}
+use Rattle.const_values.specs.Literals.{literals_fit-Number}
 use Rattle.const_values.specs.Answers.{Refuses, Gives, own_faults, constant_faults, Stands, Judges, Tells, TellsConstant}
 use Rattle.const_values.specs.Elements.{index_faults}
 use Rattle.const_values.specs.Members.{member_faults}
@@ -81,7 +80,7 @@ module _ (finds : Path → Known) (args : List Argument) where
       faults-Number r k p z wide,
       (
         eval-Number r k.look p z wide ∙ ap (λ (t : CmType). Some (record { ty = t; value = Number z })) (sym ty)
-            ∙ ap (λ (w : Value). Some (record { ty = meant_type v.ty; value = w })) (sym (literal_value z wide (meant_value v.value) (sym (is_plain-Number p z wide) ∙ s.plain) long value)),
+            ∙ ap (λ (w : Value). Some (record { ty = meant_type v.ty; value = w })) (sym (literal_value z wide (meant_value v.value) (sym (literals_fit-Number p z wide) ∙ s.literals) long value)),
         type_of-Number r k p z wide ∙ ap (λ (t : CmType). Some t) (sym ty),
       ),
     );
@@ -386,17 +385,6 @@ module _ (finds : Path → Known) (args : List Argument) where
         (behind (behind_one r k p a c) (own_faults r k c) (choice_faults p (meant_valued v) (meant_valued w)) _ _ _ _ x
         (ap (λ (l : List Fault). own_faults r k c ++ l) rows) other.0 refl refl own)));
   }
-
-  -- ---- the forms that aren't evaluated yet
-
-  unplain : (a : Expr) (x : Result CodeValued Fail) → is_plain a ≡ false → Tells finds args a x
-  unplain a x not = record { told = λ r k s is. no (sym not ∙ s.plain) }
-
-  pub told_call : (q : Path) (xs : List Expr) (x : Result CodeValued Fail) → Tells finds args (e.Call q xs) x
-  told_call q xs x = unplain (e.Call q xs) x (is_plain-Call q xs)
-
-  pub told_construct : (t : Base) (sizes xs : List Expr) (x : Result CodeValued Fail) → Tells finds args (e.Construct t sizes xs) x
-  told_construct t sizes xs x = unplain (e.Construct t sizes xs) x (is_plain-Construct t sizes xs)
 
   -- ---- where a constant is needed
 

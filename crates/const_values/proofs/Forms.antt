@@ -1,5 +1,6 @@
 -- Whether an expression is a constant by its form, kind by kind.
-use Rattle.std.specs.Prelude.{◌≡◌, refl, ℤ, Bool, true, false, ◌&&◌, List, [], ◌∷◌, Option, Some, None, is_some, option_map, Contains}
+use Rattle.std.specs.Prelude.{◌≡◌, refl, ℤ, Bool, true, false, not, ◌&&◌, List, [], ◌∷◌, Option, Some, None, is_some, option_map, Contains}
+use Rattle.std.specs.List.{list_all}
 use Rattle.std.proofs.Common.{ap, sym, ◌∙◌, subst, arith}
 use Rattle.cm_base.specs.declared.place.Place.{Place}
 use Rattle.cm_tree.specs.declared.path.Path.{Path}
@@ -10,17 +11,16 @@ use Rattle.cm_tree.specs.declared.expr.Expr.{Expr}
 use Rattle.cm_tree.specs.declared.expr.Base.{Base}
 use Rattle.cm_tree.specs.declared.expr.Expr.TheVariants as e
 use Rattle.cm_meaning.specs.Scopes.{Around, find}
-use Rattle.cm_meaning.specs.Sites.{Site, site, Reads}
-use Rattle.cm_meaning.specs.SiteEquations.{expr_sites-Name}
-use Rattle.cm_meaning.specs.Constants.{value_in}
+use Rattle.cm_meaning.specs.Sites.{Site, site, Reads, Calls, arguments_sites}
+use Rattle.cm_meaning.specs.SiteEquations.{expr_sites-Name, expr_sites-Call}
+use Rattle.cm_meaning.specs.Constants.{value_in, type_in}
 use Rattle.cm_meaning.specs.TypeOf.{Knowledge, is_constant}
-use Rattle.cm_meaning.specs.DemandEquations.{is_constant-Number, is_constant-Truth, is_constant-Name, is_constant-Paren, is_constant-Field, is_constant-Index, is_constant-Unary, is_constant-Binary, is_constant-Choice}
+use Rattle.cm_meaning.specs.DemandEquations.{is_constant-Number, is_constant-Truth, is_constant-Name, is_constant-Call, is_constant-Construct, is_constant-Paren, is_constant-Field, is_constant-Index, is_constant-Unary, is_constant-Binary, is_constant-Choice}
 use Rattle.const_values.specs.declared.names.Argument.{Argument}
 use Rattle.const_values.specs.Names.{Known, means, Agrees}
-use Rattle.const_values.specs.Plain.{is_plain, is_plain-Call, is_plain-Construct}
 use Rattle.const_values.specs.Answers.{Stands, Judges}
-use Rattle.const_values.proofs.Operands.{no}
-use Rattle.const_values.proofs.Parts.{in_paren, in_unary, in_left, in_right, in_struct, in_array, in_index, in_test, in_one, in_other}
+use Rattle.const_values.specs.Arguments.{JudgesAll}
+use Rattle.const_values.proofs.Parts.{in_call, in_values, in_paren, in_unary, in_left, in_right, in_struct, in_array, in_index, in_test, in_one, in_other}
 
 here : (s : Site) → Contains (s ∷ []) s
 here s = (0, omega arith, refl)
@@ -29,6 +29,15 @@ here s = (0, omega arith, refl)
 pub read_name : (finds : Path → Known) (args : List Argument) (r : Around) (k : Knowledge) (q : Path) → Stands finds args r k (e.Name q) → Agrees (means args (finds q)) (find r q) k.look
 read_name finds args r k q h =
     h.agrees.at (site r (Reads q)) q (subst (λ (all : List Site). Contains all (site r (Reads q))) (sym (expr_sites-Name r q)) (here (site r (Reads q)))) refl
+
+pub first_of : (s : Site) (all : List Site) → Contains (s ∷ all) s
+first_of s all = (0, omega arith, refl)
+
+-- and for one that is called
+pub called_name : (finds : Path → Known) (args : List Argument) (r : Around) (k : Knowledge) (q : Path) (all : List Expr) → Stands finds args r k (e.Call q all) → Agrees (means args (finds q)) (find r q) k.look
+called_name finds args r k q all h =
+    h.agrees.at (site r (Calls q all)) q
+    (subst (λ (sites : List Site). Contains sites (site r (Calls q all))) (sym (expr_sites-Call r q all)) (first_of (site r (Calls q all)) (arguments_sites r all))) refl
 
 module _ (finds : Path → Known) (args : List Argument) where
   pub judges_number : (p : Place) (z : ℤ) (w : Bool) → Judges finds args (e.Number p z w) true
@@ -75,15 +84,19 @@ module _ (finds : Path → Known) (args : List Argument) where
         ∙ ap (λ (x : Bool). x && is_constant r c) (g.told r k (in_one finds args r k p t a c s) ∙ also) ∙ i.told r k (in_other finds args r k p t a c s);
   }
 
-  -- the forms that aren't evaluated yet
-  unplain : (a : Expr) (b : Bool) → is_plain a ≡ false → Judges finds args a b
-  unplain a b not = record { told = λ r k s. no (sym not ∙ s.plain) }
+  -- a call of a type, and a call of anything else
+  pub judges_call : (q : Path) (all : List Expr) (b : Bool) → is_some (type_in (means args (finds q))) ≡ true → JudgesAll finds args all b → Judges finds args (e.Call q all) b
+  judges_call q all b is h = record {
+    told = λ r k s. is_constant-Call r q all ∙ ap (λ (x : Bool). x && list_all (is_constant r) all) ((called_name finds args r k q all s).named_type ∙ is) ∙ h.told r k (in_call finds args r k q all s);
+  }
 
-  pub judges_call : (q : Path) (xs : List Expr) (b : Bool) → Judges finds args (e.Call q xs) b
-  judges_call q xs b = unplain (e.Call q xs) b (is_plain-Call q xs)
+  pub judges_no_type : (q : Path) (all : List Expr) → is_some (type_in (means args (finds q))) ≡ false → Judges finds args (e.Call q all) false
+  judges_no_type q all none = record {
+    told = λ r k s. is_constant-Call r q all ∙ ap (λ (x : Bool). x && list_all (is_constant r) all) ((called_name finds args r k q all s).named_type ∙ none);
+  }
 
-  pub judges_construct : (t : Base) (sizes xs : List Expr) (b : Bool) → Judges finds args (e.Construct t sizes xs) b
-  judges_construct t sizes xs b = unplain (e.Construct t sizes xs) b (is_plain-Construct t sizes xs)
+  pub judges_construct : (t : Base) (sizes all : List Expr) (b : Bool) → JudgesAll finds args all b → Judges finds args (e.Construct t sizes all) b
+  judges_construct t sizes all b h = record { told = λ r k s. is_constant-Construct r t sizes all ∙ h.told r k (in_values finds args r k t sizes all s) }
 
   pub judges_field : (p : Place) (a : Expr) (w : Word) (b : Bool) → Judges finds args a b → Judges finds args (e.Field p a w) b
   judges_field p a w b h = record { told = λ r k s. is_constant-Field r p a w ∙ h.told r k (in_struct finds args r k p a w s) }
@@ -105,3 +118,10 @@ module _ (finds : Path → Known) (args : List Argument) where
 pub some_map : {A B : Type 0} (f : A → B) (o : Option A) → is_some o ≡ is_some (option_map f o)
 some_map f None = refl
 some_map f (Some x) = refl
+
+-- where there is no value there is no image of it, and where there is one there is
+pub none_mapped : {A B : Type 0} (f : A → B) (o : Option A) (m : Option B) (b : Bool) → option_map f o ≡ m → is_some o ≡ not b → b ≡ true → is_some m ≡ false
+none_mapped f o m b e is none = sym (ap is_some e) ∙ sym (some_map f o) ∙ is ∙ ap not none
+
+pub some_mapped : {A B : Type 0} (f : A → B) (o : Option A) (m : Option B) (b : Bool) → option_map f o ≡ m → is_some o ≡ not b → b ≡ false → is_some m ≡ true
+some_mapped f o m b e is some = sym (ap is_some e) ∙ sym (some_map f o) ∙ is ∙ ap not some

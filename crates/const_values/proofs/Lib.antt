@@ -1,10 +1,15 @@
 pub mod Arms
 pub mod Constructed
 pub mod Constructs
-pub mod Indices
 pub mod Fits
 pub mod Forms
+pub mod Indices
+pub mod Loops
+pub mod MadeOf
+pub mod Numbers
 pub mod Operands
 pub mod Parts
+pub mod Rows
 pub mod Selections
 pub mod Typed
+pub mod TypesTold

@@ -19,7 +19,7 @@ use Rattle.cm_meaning.specs.TypeRows.{type_rows}
 use Rattle.cm_meaning.specs.Exact.{In}
 use Rattle.const_values.specs.declared.names.Argument.{Argument}
 use Rattle.const_values.specs.Names.{Known, AgreesOn}
-use Rattle.const_values.specs.Plain.{is_plain}
+use Rattle.const_values.specs.Literals.{literals_fit}
 
 -- one of these faults, unless memory runs out
 abbrev pub Refuses : List Fault → Fail → Type 0
@@ -42,7 +42,7 @@ constant_faults r k a = flat_map (type_rows k) (constant_demands r a)
 -- a place and what is known there, where the answers about an expression's names are right
 pub record Stands (finds : Path → Known) (args : List Argument) (r : Around) (k : Knowledge) (a : Expr) : Type 0 where
   pub agrees : AgreesOn finds args k.look (expr_sites r a)
-  pub plain : is_plain a ≡ true
+  pub literals : literals_fit a ≡ true
 
 -- whether it is a constant by its form
 pub record Judges (finds : Path → Known) (args : List Argument) (a : Expr) (result : Bool) : Type 0 where

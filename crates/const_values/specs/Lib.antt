@@ -1,7 +1,10 @@
 pub mod Answers
+pub mod Arguments
 pub mod Construct
 pub mod Elements
+pub mod Literals
 pub mod Members
 pub mod Names
 pub mod Operations
-pub mod Plain
+pub mod Sizes
+pub mod Written

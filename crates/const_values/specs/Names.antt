@@ -1,7 +1,7 @@
 -- What names mean where a constant is needed, and when an answer about a name is what the name means at a place.
 use Rattle.std.specs.Prelude.{ℕ, ◌≡◌, true, List, slice_get, Option, Some, None, option_map, is_some, Contains}
 use Rattle.cm_tree.specs.declared.path.Path.{Path}
-use Rattle.cm_types.specs.Lawful.{IsSound}
+use Rattle.cm_types.specs.Lawful.{IsLawfulType, IsSound}
 use Rattle.cm_types.specs.Meant.{meant_type, meant_valued}
 use Rattle.cm_meaning.specs.Declared.{Declared}
 use Rattle.cm_meaning.specs.Scopes.{find}
@@ -10,6 +10,7 @@ use Rattle.cm_meaning.specs.Types.{CmType}
 use Rattle.cm_meaning.specs.Conversions.{Valued}
 use Rattle.cm_meaning.specs.Constants.{Meaning, AsValue, AsType, value_in, type_in}
 use Rattle.cm_meaning.specs.TypeOf.{is_constant_name, is_type_name}
+use Rattle.cm_meaning.specs.TypeRows.{is_small}
 use Rattle.const_values.specs.declared.names.Found.{Found}
 use Rattle.const_values.specs.declared.names.Found.TheVariants as f
 use Rattle.const_values.specs.declared.names.Argument.{Argument}
@@ -43,16 +44,22 @@ means args (IsType t) = Some (AsType t)
 means args (IsParameter i) = option_map meant_argument (slice_get args i)
 means args IsOther = None
 
--- a value of a type that a patch can have
+-- a type that a patch can have: each count in it is one, and it has no more scalars than a type may have
+pub record IsSoundType (t : CmType) : Type 0 where
+  pub lawful : IsLawfulType t
+  pub small : is_small t ≡ true
+
+-- a value of such a type, or the type
 abbrev pub IsSoundFound : Found → Type 0
 IsSoundFound (f.Value v) = IsSound (meant_valued v.now)
+IsSoundFound (f.Type t) = IsSoundType (meant_type t.now)
 IsSoundFound _ = Unit {0}
 
 abbrev pub IsSoundArgument : Argument → Type 0
 IsSoundArgument (g.OfValue v) = IsSound (meant_valued v)
-IsSoundArgument (g.OfType t) = Unit {0}
+IsSoundArgument (g.OfType t) = IsSoundType (meant_type t)
 
--- the values among the arguments are sound
+-- all arguments are sound
 abbrev pub AreSoundArguments : List Argument → Type 0
 AreSoundArguments args = (i : ℕ) (a : Argument) → slice_get args i ≡ Some a → IsSoundArgument a
 

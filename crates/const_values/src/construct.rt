@@ -6,14 +6,14 @@ ghost use Rattle.cm_meaning.specs.Types.{Single, Array};
 ghost use Rattle.cm_meaning.specs.TypeRows as rows;
 ghost use Rattle.cm_types.specs.Lawful.{IsLawfulType, AreLawfulTypes, IsSound};
 ghost use Rattle.cm_types.specs.Meant.{meant_type, meant_fields, meant_valued};
-ghost use Rattle.const_values.specs.Answers.{Gives};
+ghost use Rattle.const_values.specs.Arguments.{GivesMade, GivesComposed};
 ghost use Rattle.const_values.specs.Construct.{meant_given, meant_givens, values_of, AreSound, IsFirst, parts_of_array, fit_faults, element_faults, field_faults, cast_fault, part_faults, made_faults, GivesValue, GivesValues};
 
 use cm_base::{Cause, Fail, Items, Place, Scalar};
 use cm_const::{cast, fitted};
 use cm_types::{CmType, FieldType, Value, Valued};
 use std::alloc::Global;
-use type_rules::{copies, zero};
+use type_rules::{copies, scalars, zero};
 
 /// A constant that a value is made of, with the place of its expression's first token.
 #[derive(Debug, Drop)]
@@ -146,7 +146,7 @@ pub fn made(alloc: Global, at: Place, ty: CmType, given: &[Given]) -> Result<Val
     requires lawful { IsLawfulType (meant_type ty) }
     requires small { rows.is_small (meant_type ty) ≡ true }
     requires sound { AreSound (meant_givens given.now) }
-    ensures told { Gives (made_faults at (meant_type ty) (meant_givens given.now)) (rules.with_type (meant_type ty) (constants.constructed (meant_type ty) (values_of (meant_givens given.now)))) (Some (meant_type ty)) result }
+    ensures told { GivesMade at (meant_type ty) (meant_givens given.now) result }
     ensures sound { IfOk result (λ found. IsSound (meant_valued found)) }
 {
     if !takes_count(&ty, given.len()) {
@@ -154,4 +154,24 @@ pub fn made(alloc: Global, at: Place, ty: CmType, given: &[Given]) -> Result<Val
     }
     let value = constructed(alloc, &ty, given)?;
     Ok(Valued { ty, value })
+}
+
+/// Whether a type has no more scalars than one may have.
+pub fn is_small(ty: &CmType) -> bool
+    ensures { result ≡ rows.is_small (meant_type ty.now) }
+{
+    scalars(ty) <= 1_048_576
+}
+
+/// The same of a type that is written at the place, and may have too many scalars.
+pub fn composed(alloc: Global, at: Place, ty: CmType, given: &[Given]) -> Result<Valued, Fail>
+    requires lawful { IsLawfulType (meant_type ty) }
+    requires sound { AreSound (meant_givens given.now) }
+    ensures told { GivesComposed at (meant_type ty) (meant_givens given.now) result }
+    ensures sound { IfOk result (λ found. IsSound (meant_valued found)) }
+{
+    if !is_small(&ty) {
+        return Err(Fail::refused(alloc, Cause::TooManyElements, at));
+    }
+    made(alloc, at, ty, given)
 }

@@ -1,11 +1,12 @@
 ghost use Rattle.const_values.specs.Answers.{Judges};
+ghost use Rattle.const_values.specs.Arguments.{JudgesAll};
 ghost use Rattle.const_values.specs.Names.{AreSoundArguments};
 
-use crate::names::{ConstNames, Env, value_named};
+use crate::names::{ConstNames, Env, type_named, value_named};
 use cm_tree::Expr;
 
 /// Whether an expression is made of what constants are made of, whatever its types.
-/// Of one with a call or a constructor, which `constant` doesn't evaluate yet, it says nothing.
+#[cycle(form)]
 pub fn is_constant<N: ConstNames>(expr: &Expr, env: &Env, names: &N) -> bool
     requires { AreSoundArguments env.now.params }
     ensures { Judges (N.finds names.now) env.now.params expr.now result }
@@ -38,8 +39,25 @@ pub fn is_constant<N: ConstNames>(expr: &Expr, env: &Env, names: &N) -> bool
             }
             is_constant(other.get(), env, names)
         }
-        // Not evaluated yet
-        Expr::Call(_path, _args) => true,
-        Expr::Construct(_base, _sizes, _args) => true,
+        Expr::Call(path, args) => {
+            if type_named(path, env, names).is_none() {
+                return false;
+            }
+            are_constant(args.as_slice(), env, names)
+        }
+        Expr::Construct(_base, _sizes, args) => are_constant(args.as_slice(), env, names),
     }
+}
+
+#[cycle(form)]
+fn are_constant<N: ConstNames>(all: &[Expr], env: &Env, names: &N) -> bool
+    requires { AreSoundArguments env.now.params }
+    ensures { JudgesAll (N.finds names.now) env.now.params all.now result }
+{
+    for expr in all {
+        if !is_constant(expr, env, names) {
+            return false;
+        }
+    }
+    true
 }

@@ -1,11 +1,9 @@
-//! The value of a constant expression, or why it has none: `constant`. What names mean is answered by `ConstNames`; the
+//! The value of a constant expression, or why it has none: `constant`; and so for a type that is written: `type_written`. What names mean is answered by `ConstNames`; the
 //! definitions that it meets are those of `cm_meaning`, `Constants` for the value, and `Demands` with `TypeRows` for what is
 //! wrong.
 //!
 //! It goes down the tree of an expression and no further than its height, and never into the declaration of a name: whoever
 //! answers for names evaluates constants in the order of their needs, each once.
-//!
-//! `made` is the value of a type that is made of constants, from their values. `constant` doesn't call it yet.
 #![tactic(auto)]
 
 mod choices;
@@ -17,10 +15,11 @@ mod members;
 mod names;
 mod operations;
 mod places;
-#[cfg(test)]
-mod tests;
+mod sizes;
+mod written;
 
 pub use construct::{Given, made};
 pub use evaluate::constant;
 pub use form::is_constant;
 pub use names::{Argument, Arguments, ConstNames, Env, Found};
+pub use written::type_written;

@@ -1,9 +1,9 @@
-ghost use Rattle.std.specs.Prelude.{◌≡◌, option_map};
+ghost use Rattle.std.specs.Prelude.{◌≡◌, option_map, slice_get};
 ghost use Rattle.std.specs.Option.{IfSome};
-ghost use Rattle.cm_meaning.specs.Constants.{value_in};
+ghost use Rattle.cm_meaning.specs.Constants.{value_in, type_in};
 ghost use Rattle.cm_types.specs.Lawful.{IsSound};
-ghost use Rattle.cm_types.specs.Meant.{meant_valued};
-ghost use Rattle.const_values.specs.Names.{Known, seen, means, IsSoundFound, AreSoundArguments};
+ghost use Rattle.cm_types.specs.Meant.{meant_type, meant_valued};
+ghost use Rattle.const_values.specs.Names.{Known, seen, means, IsSoundType, IsSoundFound, AreSoundArguments};
 ghost use Rattle.cm_tree.specs.declared.path.Path.{Path as ThePath};
 
 use cm_base::Items;
@@ -59,6 +59,13 @@ impl Env {
     }
 }
 
+// The argument of a parameter.
+fn argument_at(env: &Env, position: u32) -> Option<&Argument>
+    ensures { option_map (λ a. a.now) result ≡ slice_get env.now.params position }
+{
+    env.params.get(position as usize)
+}
+
 /// The value of a path, where it is a constant or a value parameter.
 pub fn value_named<'a, N: ConstNames>(path: &Path, env: &'a Env, names: &'a N) -> Option<&'a Valued>
     requires { AreSoundArguments env.now.params }
@@ -67,10 +74,26 @@ pub fn value_named<'a, N: ConstNames>(path: &Path, env: &'a Env, names: &'a N) -
 {
     match names.found(path) {
         Found::Value(value) => Some(value),
-        Found::Param(position) => match env.params.get(position as usize) {
+        Found::Param(position) => match argument_at(env, position) {
             Some(Argument::OfValue(value)) => Some(value),
             Some(Argument::OfType(_)) | None => None,
         },
         Found::Type(_) | Found::Other => None,
+    }
+}
+
+/// The type of a path, where it is one or a type parameter.
+pub fn type_named<'a, N: ConstNames>(path: &Path, env: &'a Env, names: &'a N) -> Option<&'a CmType>
+    requires { AreSoundArguments env.now.params }
+    ensures ty { option_map (λ t. meant_type t.now) result ≡ type_in (means env.now.params (N.finds names.now path.now)) }
+    ensures sound { IfSome result (λ t. IsSoundType (meant_type t.now)) }
+{
+    match names.found(path) {
+        Found::Type(ty) => Some(ty),
+        Found::Param(position) => match argument_at(env, position) {
+            Some(Argument::OfType(ty)) => Some(ty),
+            Some(Argument::OfValue(_)) | None => None,
+        },
+        Found::Value(_) | Found::Other => None,
     }
 }

@@ -41,6 +41,12 @@ pub numbered-names : {E : Type 0} (spaces longer : List Space) (names : List Mem
 numbered-names spaces longer names entries v space text (Ok n) all is grown = names-more spaces longer names entries all (opened-more spaces longer (inner spaces space text) grown) ∙ ap names_of is
 numbered-names spaces longer names entries v space text (Err e) all is grown = tt
 
+-- and the namespaces that had a number keep it
+pub numbered-longer : {E : Type 0} (spaces longer : List Space) (names : List Member) (v : Known) (space : ℕ) (text : List ℕ) (o : Result ℕ E) → known spaces names ≡ v
+    → IfOk o (λ _. longer ≡ with_space spaces (inner spaces space text)) → OnOk o (IsLonger v.spaces longer)
+numbered-longer spaces longer names v space text (Ok n) is grown = subst (λ (v : Known). IsLonger v.spaces longer) is (opened-more spaces longer (inner spaces space text) grown)
+numbered-longer spaces longer names v space text (Err e) is grown = tt
+
 -- what a call answers that declares a part of a namespace after it was opened
 pub opened-adds : {A : Type 0} (spaces longer : List Space) (names : List Member) (entries : List (Opening × ℕ)) (v new : Known) (space i : ℕ) (p : Place) (text : Bor (List ℕ)) (r : Result A Fail)
     → AreIndexed spaces names entries → known spaces names ≡ v → space < length v.spaces → longer ≡ with_space spaces (inner spaces space text.now)

@@ -250,3 +250,7 @@ no-outer openings v n k h is one below none =
       some-within [] k below none = omega (arith, below)
       some-within (x ∷ openings) zero below none = cc
       some-within (x ∷ openings) (suc k) below none = some-within openings k (omega (arith, below)) none
+
+-- the whole patch has number 0
+pub root-first : (openings : List Opening) (all : List Space) → AreRooted openings (spaces_of openings) → spaces_of openings ≡ all → slice_get all 0 ≡ Some []
+root-first openings all h is = ap (λ z. slice_get z 0) (sym is ∙ h.each)

@@ -3,7 +3,7 @@ ghost use Rattle.std.specs.List.{list_any};
 ghost use Rattle.cm_meaning.specs.NameFaults.{clashes};
 ghost use Rattle.cm_meaning.specs.Scopes.{find_in, outward, space_names, space_scopes};
 ghost use Rattle.name_scopes.specs.Openings.{AreDistinct, inner, outer_space};
-ghost use Rattle.name_scopes.specs.Members.{Adds, IsBelow, IsNumberOf, declared_in, found_within, is_part, names_of, namespace_number, part_of, space_at};
+ghost use Rattle.name_scopes.specs.Members.{Adds, IsBelow, IsLonger, IsNumberOf, declared_in, found_within, is_part, names_of, namespace_number, part_of, space_at};
 
 use crate::named::{Member, Named};
 use crate::spaces::Spaces;
@@ -173,6 +173,13 @@ impl<'a> Members<'a> {
         self.firsts.get(&(space, text)).copied()
     }
 
+    /// The number of the whole patch.
+    pub fn root(&self) -> usize
+        ensures { slice_get self.now.spaces result ≡ Some [] }
+    {
+        self.spaces.root()
+    }
+
     /// The number of the namespace that another stands in. The whole patch stands in none.
     pub fn outer(&self, space: usize) -> Option<usize>
         requires { space < length self.now.spaces }
@@ -186,6 +193,7 @@ impl<'a> Members<'a> {
         requires { space < length self.old.spaces }
         ensures number { IfOk result (λ n. slice_get self.new.spaces n ≡ Some (inner self.old.spaces space text.now)) }
         ensures names { OnOk result (names_of self.new ≡ names_of self.old) }
+        ensures spaces { OnOk result (IsLonger self.old.spaces self.new.spaces) }
         ensures err { OnErr result (self.new ≡ self.old) }
     {
         self.spaces.open(space, text)

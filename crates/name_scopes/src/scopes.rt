@@ -2,7 +2,8 @@ ghost use Rattle.std.specs.Prelude.{◌≡◌, [], ◌∷◌, List, IfOk};
 ghost use Rattle.cm_meaning.specs.Declared.{Space};
 ghost use Rattle.cm_meaning.specs.Exact.{IsExactly};
 ghost use Rattle.cm_meaning.specs.NameFaults.{member_faults};
-ghost use Rattle.name_scopes.specs.Members.{declared_in, faults_within, names_in};
+ghost use Rattle.cm_meaning.specs.Scopes.{patch_names};
+ghost use Rattle.name_scopes.specs.Members.{declared_in, faults_within, names_in, names_of};
 
 use crate::apart::check_unit;
 use crate::members::Members;
@@ -76,5 +77,19 @@ impl<'a> Scopes<'a> {
         add_files(alloc, &mut members, files)?;
         check_members(alloc, members.as_slice())?;
         Ok(Scopes { files, members })
+    }
+
+    /// The files.
+    pub fn files(&self) -> &'a [File]
+        ensures { result.now ≡ self.now }
+    {
+        self.files
+    }
+
+    /// The declarations of all namespaces of the files.
+    pub fn into_members(self) -> Members<'a>
+        ensures { names_of result ≡ patch_names self.entry }
+    {
+        self.members
     }
 }

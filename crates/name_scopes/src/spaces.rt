@@ -35,6 +35,14 @@ impl<'a> Spaces<'a> {
         }
     }
 
+    /// The number of the whole patch.
+    pub fn root(&self) -> usize
+        ensures { slice_get self.now result ≡ Some [] }
+    {
+        let _openings = &self.openings;
+        0
+    }
+
     /// How many namespaces have a number. No two are one.
     pub fn count(&self) -> usize
         ensures count { result ≡ length self.now }

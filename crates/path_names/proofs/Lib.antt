@@ -1,0 +1,4 @@
+pub mod NumberLemmas
+pub mod StandLemmas
+pub mod RisingLemmas
+pub mod PatchLemmas

@@ -1,0 +1,9 @@
+pub mod Quiet
+pub mod Laws
+pub mod Meaning
+pub mod Falling
+pub mod Plain
+pub mod Whole
+pub mod Emit
+pub mod Stmts
+pub mod Lawful

@@ -1,0 +1,4 @@
+pub mod Blocks
+pub mod Lowered
+pub mod Orderly
+pub mod Views

@@ -13,10 +13,10 @@ use Rattle.cm_core.specs.Measures.{measured_in, first_size, unit_size, ends_size
 use Rattle.memory_layout.specs.Held.{held}
 use Rattle.memory_layout.proofs.Own.{own_is}
 
-joined : (a b m n : ℕ) → held a ≡ held b → held m ≡ held n → held (a + m) ≡ held (b + n)
+pub joined : (a b m n : ℕ) → held a ≡ held b → held m ≡ held n → held (a + m) ≡ held (b + n)
 joined a b m n h g = grind (arith, h, g)
 
-behind : (a m n : ℕ) → held m ≡ held n → held (a + m) ≡ held (a + n)
+pub behind : (a m n : ℕ) → held m ≡ held n → held (a + m) ≡ held (a + n)
 behind a m n h = joined a a m n refl h
 
 module _ (structs : List StructType) (unit : CoreUnit) (body other_body chains other_chains : ℕ → ℕ)

@@ -1,5 +1,11 @@
 mod Alike
+mod Among
+mod AtLeaf
 mod Functions
 mod Counts
+mod InOrder
 mod Own
 mod Past
+mod Settled
+mod Starts
+mod Whole

@@ -1,0 +1,5 @@
+mod Operating
+mod Shifting
+mod Converting
+mod Typing
+pub mod Public

@@ -1,8 +1,5 @@
-pub mod Bytes
-pub mod Copying
 pub mod Lines
 pub mod Reductions
 pub mod Typing
 pub mod Whole
 pub mod Rows
-pub mod Standing

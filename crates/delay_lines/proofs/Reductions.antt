@@ -11,19 +11,19 @@ use Rattle.wasm_tree.specs.declared.op.StoreOp.TheVariants as store
 use Rattle.wasm_tree.specs.declared.op.CompareOp.TheVariants as compare
 use Rattle.wasm_tree.specs.declared.op.BinaryOp.TheVariants as binary
 use Rattle.wasm_tree.specs.declared.instr.Instr.TheVariants as instr
-use Rattle.wasm_tree.specs.Meaning.{loaded, load_size, stored, store_size, binary_of}
+use Rattle.wasm_tree.specs.Meaning.{load_size, store_size, binary_of}
 use Rattle.wasm_tree.specs.Reduce.{Nil, Plain, Func, State, push, write_bytes}
 use Rattle.wasm_steps.specs.Steps.{Does, quiet}
 use Rattle.wasm_steps.specs.Windows.{window}
 use Rattle.wasm_steps.proofs.Compose.{both, restate}
 use Rattle.wasm_steps.proofs.Instructions as each
-use Rattle.wasm_steps.proofs.Windows.{length-window}
 use Rattle.delay_lines.specs.declared.ring.RingPlace.{RingPlace}
 use Rattle.delay_lines.specs.Rings.{cursor_of}
-use Rattle.delay_lines.specs.Straight.{plains}
-use Rattle.delay_lines.specs.Code.{is_wide, load_of, store_of, part_size, offset_code, oldest_part, push_part, turn_code}
-use Rattle.delay_lines.specs.Promises.{with_memory}
-use Rattle.delay_lines.proofs.Bytes.{AreBytes, restored, bytes_window}
+use Rattle.straight_code.specs.Straight.{plains}
+use Rattle.delay_lines.specs.Code.{offset_code, oldest_part, push_part, turn_code}
+use Rattle.memory_code.specs.Copies.{with_memory, AreBytes}
+use Rattle.memory_code.specs.Parts.{is_wide, load_of, store_of, part_size}
+use Rattle.memory_code.proofs.Whole.{load_size_of, store_size_of, moved}
 
 -- the cursor is loaded
 cursor_load : {funcs : List Func} (ring : RingPlace) (st : State) (c : ℕ) → cursor_of ring st.memory ≡ c → ring.cursor + 4 ≤ length st.memory →
@@ -47,22 +47,6 @@ offset_does ring st c e room small =
     (both (cursor_load ring st c e room)
     (both (each.i32_const (push c st) (pos ring.width))
     (each.binary st I32 binary.Mul c ring.width (c * ring.width) (product c ring.width small))))
-
-load_size_of : (wide : Bool) → load_size (load_of wide) ≡ part_size wide
-load_size_of true = refl
-load_size_of false = refl
-
-store_size_of : (wide : Bool) → store_size (store_of wide) ≡ part_size wide
-store_size_of true = refl
-store_size_of false = refl
-
--- what is stored of what was loaded from a part
-moved : (wide : Bool) (memory : List ℕ) (loaded_from from : ℕ) → loaded_from ≡ from → from + part_size wide ≤ length memory → AreBytes memory →
-    stored (store_of wide) (loaded (load_of wide) (take (load_size (load_of wide)) (drop loaded_from memory))) ≡ window memory from (part_size wide)
-moved wide memory loaded_from from e room bytes =
-    ap (λ s. stored (store_of wide) (loaded (load_of wide) (take s (drop loaded_from memory)))) (load_size_of wide)
-    ∙ ap (λ a. stored (store_of wide) (loaded (load_of wide) (take (part_size wide) (drop a memory)))) e
-    ∙ restored wide (window memory from (part_size wide)) (length-window memory from (part_size wide) room) (bytes_window memory from (part_size wide) bytes)
 
 -- one part of the oldest entry is copied to an address
 pub oldest_part_does : {funcs : List Func} (ring : RingPlace) (to : ℕ) (st : State) (c at : ℕ) → cursor_of ring st.memory ≡ c → ring.cursor + 4 ≤ length st.memory → c * ring.width < 2 ^ 32 →

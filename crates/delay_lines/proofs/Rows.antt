@@ -3,7 +3,7 @@ use Rattle.std.proofs.Common.{◌≡◌, ℕ, List, [], ◌∷◌, refl}
 use Rattle.wasm_tree.specs.Reduce.{State, Done, at, exec, plain, act}
 use Rattle.delay_lines.specs.declared.ring.RingPlace.{RingPlace}
 use Rattle.delay_lines.specs.Rings.{line_of, oldest_of}
-use Rattle.delay_lines.specs.Straight.{plains}
+use Rattle.straight_code.specs.Straight.{plains}
 use Rattle.delay_lines.specs.Code.{oldest_instrs, push_instrs}
 
 -- a cursor and three entries, behind a word that is no part of the ring

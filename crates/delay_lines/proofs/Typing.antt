@@ -1,23 +1,23 @@
--- The code of rings is typed, and straight.
-use Rattle.std.proofs.Common.{ℕ, zero, suc, ◌+◌, ◌*◌, ◌≤◌, Bool, true, false, pos, List, [], ◌∷◌, ◌++◌, refl, sym, arith, subst}
+-- The code of rings is typed, straight, and names no local.
+use Rattle.std.proofs.Common.{ℕ, zero, suc, ◌+◌, ◌*◌, ◌≤◌, Bool, true, false, ℤ, pos, List, [], ◌∷◌, refl, arith}
 use Rattle.wasm_tree.specs.declared.module.ValType.{ValType}
 use Rattle.wasm_tree.specs.declared.module.ValType.TheVariants.{I32, I64}
+use Rattle.std.specs.List.{AllByRecursion}
+use Rattle.wasm_tree.specs.declared.op.LoadOp.{LoadOp}
+use Rattle.wasm_tree.specs.declared.op.StoreOp.{StoreOp}
+use Rattle.wasm_tree.specs.declared.op.CompareOp.{CompareOp}
+use Rattle.wasm_tree.specs.declared.op.BinaryOp.{BinaryOp}
+use Rattle.wasm_tree.specs.declared.instr.MemArg.{MemArg}
 use Rattle.wasm_tree.specs.declared.instr.Instr.{Instr}
 use Rattle.wasm_tree.specs.declared.instr.Instr.TheVariants as instr
-use Rattle.wasm_tree.specs.Typed.{Context, Takes, Typed}
+use Rattle.wasm_tree.specs.Typed.{Context, Typed}
 use Rattle.delay_lines.specs.declared.ring.RingPlace.{RingPlace}
-use Rattle.delay_lines.specs.Straight.{plains, AreStraight}
-use Rattle.delay_lines.specs.Code.{is_wide, part_size, parts_in, load_of, store_of, offset_code, oldest_part, push_part, parts, turn_code, oldest_instrs, push_instrs}
+use Rattle.straight_code.specs.Straight.{plains, IsStraight, AreStraight, NamesNoLocal, NameNoLocals}
+use Rattle.straight_code.proofs.Straight.{all_append}
+use Rattle.straight_code.proofs.Typing.{takes, typed_append}
+use Rattle.memory_code.specs.Parts.{is_wide, part_size, parts_in, load_of, store_of, parts}
+use Rattle.delay_lines.specs.Code.{offset_code, oldest_part, push_part, turn_code, oldest_instrs, push_instrs}
 use Rattle.delay_lines.specs.Promises.{IsTyped}
-
-typed_append : (c : Context) (labels : List (List ValType)) (a b : List Instr) (x y z : List ValType) →
-    Typed c labels (plains a) x y → Typed c labels (plains b) y z → Typed c labels (plains (a ++ b)) x z
-typed_append c labels [] b x y z h k = subst (λ (w : List ValType). Typed c labels (plains b) w z) (sym h) k
-typed_append c labels (i ∷ a) b x y z h k = (h.0, h.1, typed_append c labels a b h.0 y z h.2 k)
-
--- takes some operands and leaves others
-takes : (ins outs below : List ValType) → Takes ins outs (ins ++ below) (outs ++ below)
-takes ins outs below = record { below = below; had = refl; has = refl }
 
 word : 1 ≤ 4
 word = omega arith
@@ -120,27 +120,51 @@ push_typed ring from c labels before =
     typed_append c labels (parts (push_part ring from) (size_in ring) (parts_in ring.width)) (turn_code ring) before before before
     (typed_parts (push_part ring from) (size_in ring) (typed_push ring from) (parts_in ring.width) c labels before) (typed_turn ring c labels before)
 
-straight_append : (a b : List Instr) → AreStraight a → AreStraight b → AreStraight (a ++ b)
-straight_append [] b h k = k
-straight_append (i ∷ a) b h k = (h.0, straight_append a b h.1 k)
+-- what holds of the kinds of instructions in the code of rings
+record Allows (P : Instr → Type 0) : Type 0 where
+  number : (value : ℤ) → P (instr.I32Const value)
+  load : (op : LoadOp) (place : MemArg) → P (instr.Load op place)
+  store : (op : StoreOp) (place : MemArg) → P (instr.Store op place)
+  compare : (type : ValType) (op : CompareOp) → P (instr.Compare type op)
+  binary : (type : ValType) (op : BinaryOp) → P (instr.Binary type op)
 
-straight_parts : (part : ℕ → List Instr) (size : ℕ) → ((at : ℕ) → AreStraight (part at)) → (n : ℕ) → AreStraight (parts part size n)
-straight_parts part size h zero = tt
-straight_parts part size h (suc n) = straight_append (parts part size n) (part (n * size)) (straight_parts part size h n) (h (n * size))
+straight_allows : Allows IsStraight
+straight_allows = record { number = λ value. tt; load = λ op place. tt; store = λ op place. tt; compare = λ type op. tt; binary = λ type op. tt }
 
-straight_oldest : (ring : RingPlace) (to at : ℕ) → AreStraight (oldest_part ring to at)
-straight_oldest ring to at = (tt, (tt, (tt, (tt, (tt, (tt, (tt, tt)))))))
+local_free_allows : Allows NamesNoLocal
+local_free_allows = record { number = λ value. tt; load = λ op place. tt; store = λ op place. tt; compare = λ type op. tt; binary = λ type op. tt }
 
-straight_push : (ring : RingPlace) (from at : ℕ) → AreStraight (push_part ring from at)
-straight_push ring from at = (tt, (tt, (tt, (tt, (tt, (tt, (tt, tt)))))))
+module _ (P : Instr → Type 0) (a : Allows P) where
+  all_parts : (part : ℕ → List Instr) (size : ℕ) → ((at : ℕ) → AllByRecursion P (part at)) → (n : ℕ) → AllByRecursion P (parts part size n)
+  all_parts part size h zero = tt
+  all_parts part size h (suc n) = all_append P (parts part size n) (part (n * size)) (all_parts part size h n) (h (n * size))
 
-straight_turn : (ring : RingPlace) → AreStraight (turn_code ring)
-straight_turn ring = (tt, (tt, (tt, (tt, (tt, (tt, (tt, (tt, (tt, (tt, (tt, tt)))))))))))
+  all_oldest_part : (ring : RingPlace) (to at : ℕ) → AllByRecursion P (oldest_part ring to at)
+  all_oldest_part ring to at = (a.number _, (a.number _, (a.load _ _, (a.number _, (a.binary _ _, (a.load _ _, (a.store _ _, tt)))))))
+
+  all_push_part : (ring : RingPlace) (from at : ℕ) → AllByRecursion P (push_part ring from at)
+  all_push_part ring from at = (a.number _, (a.load _ _, (a.number _, (a.binary _ _, (a.number _, (a.load _ _, (a.store _ _, tt)))))))
+
+  all_turn : (ring : RingPlace) → AllByRecursion P (turn_code ring)
+  all_turn ring =
+      (a.number _, (a.number _, (a.load _ _, (a.number _, (a.binary _ _, (a.number _, (a.load _ _, (a.number _, (a.compare _ _, (a.binary _ _, (a.store _ _, tt)))))))))))
+
+  all_oldest : (ring : RingPlace) (to : ℕ) → AllByRecursion P (oldest_instrs ring to)
+  all_oldest ring to = all_parts (oldest_part ring to) (size_in ring) (all_oldest_part ring to) (parts_in ring.width)
+
+  all_push : (ring : RingPlace) (from : ℕ) → AllByRecursion P (push_instrs ring from)
+  all_push ring from =
+      all_append P (parts (push_part ring from) (size_in ring) (parts_in ring.width)) (turn_code ring)
+      (all_parts (push_part ring from) (size_in ring) (all_push_part ring from) (parts_in ring.width)) (all_turn ring)
 
 pub oldest_straight : (ring : RingPlace) (to : ℕ) → AreStraight (oldest_instrs ring to)
-oldest_straight ring to = straight_parts (oldest_part ring to) (size_in ring) (straight_oldest ring to) (parts_in ring.width)
+oldest_straight = all_oldest IsStraight straight_allows
 
 pub push_straight : (ring : RingPlace) (from : ℕ) → AreStraight (push_instrs ring from)
-push_straight ring from =
-    straight_append (parts (push_part ring from) (size_in ring) (parts_in ring.width)) (turn_code ring)
-    (straight_parts (push_part ring from) (size_in ring) (straight_push ring from) (parts_in ring.width)) (straight_turn ring)
+push_straight = all_push IsStraight straight_allows
+
+pub oldest_local_free : (ring : RingPlace) (to : ℕ) → NameNoLocals (oldest_instrs ring to)
+oldest_local_free = all_oldest NamesNoLocal local_free_allows
+
+pub push_local_free : (ring : RingPlace) (from : ℕ) → NameNoLocals (push_instrs ring from)
+push_local_free = all_push NamesNoLocal local_free_allows

@@ -1,6 +1,5 @@
 -- The code of rings as a whole.
-use Rattle.std.proofs.Common.{◌≡◌, ℕ, ◌+◌, ◌*◌, ◌/◌, ◌%◌, ◌^◌, ◌<◌, ◌≤◌, Bool, true, false, List, [], ◌∷◌, ◌++◌, length, set, drop, refl, sym, ap, ◌∙◌, arith, subst, ⊎_elim}
-use Rattle.std.specs.Prelude.{◌==◌}
+use Rattle.std.proofs.Common.{◌≡◌, ℕ, ◌+◌, ◌*◌, ◌^◌, ◌<◌, ◌≤◌, List, [], ◌∷◌, ◌++◌, length, set, drop, refl, sym, ap, ◌∙◌, arith, subst, ⊎_elim}
 use Rattle.std.specs.Int.{w32, from_le_bytes, to_le_bytes}
 use Rattle.std.proofs.lemmas.Bool.{cases_eq}
 use Rattle.std.proofs.lemmas.Nat.{from_le_bytes-to_le_bytes_4}
@@ -12,21 +11,17 @@ use Rattle.wasm_steps.proofs.Compose.{both_quiet, recode, restate}
 use Rattle.wasm_steps.proofs.Windows.{length-window, length-write_bytes, window_apart, window_written}
 use Rattle.delay_lines.specs.declared.ring.RingPlace.{RingPlace}
 use Rattle.delay_lines.specs.Rings.{ring_of, entries_from, size_of, cursor_of, line_of, oldest_of, IsPlace, IsOutside, Stands}
-use Rattle.delay_lines.specs.Straight.{plains}
-use Rattle.delay_lines.specs.Code.{is_wide, part_size, parts_in, oldest_part, push_part, parts, turn_code, oldest_instrs, push_instrs}
-use Rattle.delay_lines.specs.Promises.{with_memory, CopiesOldest, IsPushed, Pushes}
-use Rattle.delay_lines.proofs.Bytes.{bytes_window, bytes_write, bytes_word}
-use Rattle.delay_lines.proofs.Copying.{plains_append, apart_inside, apart_back, CopiesPart, copied, length-copied, copies}
+use Rattle.straight_code.specs.Straight.{plains}
+use Rattle.straight_code.proofs.Straight.{plains_append}
+use Rattle.memory_code.specs.Parts.{is_wide, part_size, parts_in, parts}
+use Rattle.memory_code.specs.Copies.{with_memory}
+use Rattle.memory_code.proofs.Whole.{parts_whole}
+use Rattle.delay_lines.specs.Code.{oldest_part, push_part, turn_code, oldest_instrs, push_instrs}
+use Rattle.delay_lines.specs.Promises.{CopiesOldest, IsPushed, Pushes}
+use Rattle.memory_code.proofs.Bytes.{bytes_window, bytes_write, bytes_word}
+use Rattle.memory_code.proofs.Copying.{apart_inside, apart_back, CopiesPart, copied, length-copied, copies}
 use Rattle.delay_lines.proofs.Lines.{inside, ring_head, ring_step, ring_wrap, length-entries, entry_at, entries_apart, entries_set}
 use Rattle.delay_lines.proofs.Reductions.{oldest_part_does, push_part_does, turned, turned_last, turned_on, turned_below, turn_does}
-
-parts_by : (wide : Bool) (width : ℕ) → (width % 8 == 0) ≡ wide → width % 4 ≡ 0 → width / part_size wide * part_size wide ≡ width
-parts_by true width e h = let z : width % 8 ≡ 0 = grind (arith, common_steps) in omega (arith, z)
-parts_by false width e h = omega (arith, h)
-
--- the parts are the whole
-parts_whole : (width : ℕ) → width % 4 ≡ 0 → parts_in width * part_size (is_wide width) ≡ width
-parts_whole width h = parts_by (is_wide width) width refl h
 
 oldest_is : (ring : RingPlace) (memory : List ℕ) → Stands ring memory → oldest_of ring memory ≡ window memory (ring.first + cursor_of ring memory * ring.width) ring.width
 oldest_is ring memory stands =
@@ -52,11 +47,11 @@ oldest_does ring to place funcs st stands out =
     let into : to + w ≤ length m = out.room in
     let small : c * w < 2 ^ 32 = omega (arith, ends, below) in
     let apart_src : Apart to w src w = apart_inside ring.first (size_of ring) to w src w out.entries (omega arith) (omega (arith, ends)) in
-    let each : CopiesPart funcs st (oldest_part ring to) to src w size ring.cursor = λ at memory le len same bytes.
-    oldest_part_does ring to (with_memory st memory) c at (ap (from_le_bytes w32) same) (omega (arith, len, cursor_room)) small bytes
+    let each : CopiesPart funcs st (oldest_part ring to) 4 to src w size = λ at memory le len outside bytes.
+    oldest_part_does ring to (with_memory st memory) c at (ap (from_le_bytes w32) (outside ring.cursor 4 (apart_back to w ring.cursor 4 out.cursor))) (omega (arith, len, cursor_room)) small bytes
     (omega (arith, len, le, into)) (omega (arith, len, le, ends, room)) in
-    let all : Does funcs (plains (oldest_instrs ring to)) (4 * n) quiet st (with_memory st (copied st to src (n * size))) =
-    copies st (oldest_part ring to) to src w size ring.cursor each stands.bytes into (omega (arith, ends, room)) apart_src (apart_back to w ring.cursor 4 out.cursor) n (omega (arith, whole)) in
+    let all : Does funcs (plains (oldest_instrs ring to)) (n * 4) quiet st (with_memory st (copied st to src (n * size))) =
+    copies st (oldest_part ring to) 4 to src w size each stands.bytes into (omega (arith, ends, room)) apart_src n (omega (arith, whole)) in
     restate (ap (λ s. with_memory st (copied st to src s)) whole ∙ ap (λ e. with_memory st (write_bytes m to e)) (sym (oldest_is ring m stands))) all
 
 -- the cursor after a write of a number that fits
@@ -186,12 +181,12 @@ push_does ring from place funcs st stands out =
     let few : c + 1 < 2 ^ 32 = omega (arith, count, at) in
     let apart_src : Apart from w dst w = apart_inside ring.first (size_of ring) from w dst w out.entries (omega arith) (omega (arith, ends)) in
     let apart_cursor : Apart ring.cursor 4 dst w = apart_inside ring.first (size_of ring) ring.cursor 4 dst w stands.apart (omega arith) (omega (arith, ends)) in
-    let each : CopiesPart funcs st (push_part ring from) dst from w size ring.cursor = λ at memory le len same bytes.
-    push_part_does ring from (with_memory st memory) c at (ap (from_le_bytes w32) same) (omega (arith, len, cursor_room)) small bytes
+    let each : CopiesPart funcs st (push_part ring from) 4 dst from w size = λ at memory le len outside bytes.
+    push_part_does ring from (with_memory st memory) c at (ap (from_le_bytes w32) (outside ring.cursor 4 apart_cursor)) (omega (arith, len, cursor_room)) small bytes
     (omega (arith, len, le, into)) (omega (arith, len, le, source)) in
-    let all : Does funcs (plains (parts (push_part ring from) size n)) (4 * n) quiet st (with_memory st (copied st dst from (n * size))) =
-    copies st (push_part ring from) dst from w size ring.cursor each stands.bytes into source (apart_back from w dst w apart_src) apart_cursor n (omega (arith, whole)) in
-    let first : Does funcs (plains (parts (push_part ring from) size n)) (4 * n) quiet st (with_memory st m1) = restate (ap (λ s. with_memory st (copied st dst from s)) whole) all in
+    let all : Does funcs (plains (parts (push_part ring from) size n)) (n * 4) quiet st (with_memory st (copied st dst from (n * size))) =
+    copies st (push_part ring from) 4 dst from w size each stands.bytes into source (apart_back from w dst w apart_src) n (omega (arith, whole)) in
+    let first : Does funcs (plains (parts (push_part ring from) size n)) (n * 4) quiet st (with_memory st m1) = restate (ap (λ s. with_memory st (copied st dst from s)) whole) all in
     let e : length (window m from w) ≡ w = entry_length ring from st out in
     let P : ℕ → Type 0 = λ k. Apart ring.cursor 4 dst k in
     let cursor_same : cursor_of ring m1 ≡ c = ap (from_le_bytes w32) (window_apart m ring.cursor 4 dst (window m from w) (subst P (sym e) apart_cursor) (omega (arith, ends, room))) in

@@ -1,34 +1,14 @@
 -- The code of rings, instruction by instruction.
-use Rattle.std.specs.Prelude.{ℕ, zero, suc, ◌+◌, ◌-◌, ◌*◌, ◌/◌, ◌%◌, ◌==◌, pos, Bool, true, false, List, [], ◌∷◌, ◌++◌}
+use Rattle.std.specs.Prelude.{ℕ, ◌+◌, ◌-◌, pos, List, [], ◌∷◌, ◌++◌}
 use Rattle.wasm_tree.specs.declared.module.ValType.TheVariants.{I32}
-use Rattle.wasm_tree.specs.declared.op.LoadOp.{LoadOp}
 use Rattle.wasm_tree.specs.declared.op.LoadOp.TheVariants as load
-use Rattle.wasm_tree.specs.declared.op.StoreOp.{StoreOp}
 use Rattle.wasm_tree.specs.declared.op.StoreOp.TheVariants as store
 use Rattle.wasm_tree.specs.declared.op.CompareOp.TheVariants as compare
 use Rattle.wasm_tree.specs.declared.op.BinaryOp.TheVariants as binary
 use Rattle.wasm_tree.specs.declared.instr.Instr.{Instr}
 use Rattle.wasm_tree.specs.declared.instr.Instr.TheVariants as instr
+use Rattle.memory_code.specs.Parts.{is_wide, load_of, store_of, part_size, parts_in, parts}
 use Rattle.delay_lines.specs.declared.ring.RingPlace.{RingPlace}
-
--- an entry is copied by parts of 8 bytes where its width is a multiple of 8, and else of 4
-abbrev pub is_wide : ℕ → Bool
-is_wide width = width % 8 == 0
-
-abbrev pub load_of : Bool → LoadOp
-load_of true = load.I64
-load_of false = load.I32
-
-abbrev pub store_of : Bool → StoreOp
-store_of true = store.I64
-store_of false = store.I32
-
-abbrev pub part_size : Bool → ℕ
-part_size true = 8
-part_size false = 4
-
-abbrev pub parts_in : ℕ → ℕ
-parts_in width = width / part_size (is_wide width)
 
 -- the number of the oldest entry
 abbrev pub cursor_code : RingPlace → List Instr
@@ -51,11 +31,6 @@ push_part ring from at =
     offset_code ring
     ++ instr.I32Const (pos from) ∷ instr.Load (load_of (is_wide ring.width)) (record { align = 0; offset = at })
     ∷ instr.Store (store_of (is_wide ring.width)) (record { align = 0; offset = ring.first + at }) ∷ []
-
--- so many parts of a size
-abbrev pub parts : (ℕ → List Instr) → ℕ → ℕ → List Instr
-parts part size zero = []
-parts part size (suc count) = parts part size count ++ part (count * size)
 
 -- the next number
 abbrev pub next_code : RingPlace → List Instr

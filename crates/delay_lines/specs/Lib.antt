@@ -1,4 +1,3 @@
 pub mod Rings
-pub mod Straight
 pub mod Code
 pub mod Promises

@@ -8,8 +8,9 @@ use Rattle.wasm_steps.specs.Steps.{Does, quiet}
 use Rattle.wasm_steps.specs.Windows.{window}
 use Rattle.delay_lines.specs.declared.ring.RingPlace.{RingPlace}
 use Rattle.delay_lines.specs.Rings.{line_of, oldest_of, IsOutside, Stands}
-use Rattle.delay_lines.specs.Straight.{plains}
-use Rattle.delay_lines.specs.Code.{parts_in}
+use Rattle.straight_code.specs.Straight.{plains}
+use Rattle.memory_code.specs.Parts.{parts_in}
+use Rattle.memory_code.specs.Copies.{with_memory}
 
 -- typed from nothing to nothing in every function, whatever its locals are
 abbrev pub IsTyped : List Instr → Type 0
@@ -17,10 +18,7 @@ IsTyped code = (c : Context) (labels : List (List ValType)) (before : List ValTy
 
 -- four reductions for each part of an entry
 abbrev pub copy_count : ℕ → ℕ
-copy_count width = 4 * parts_in width
-
-abbrev pub with_memory : State → List ℕ → State
-with_memory st memory = record st { memory = memory }
+copy_count width = parts_in width * 4
 
 -- the oldest entry is copied to the address, and no other byte changes
 abbrev pub CopiesOldest : RingPlace → ℕ → List Instr → Type 0

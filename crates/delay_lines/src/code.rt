@@ -1,11 +1,13 @@
 ghost use Rattle.std.specs.Prelude.{◌≡◌, ◌+◌, ◌*◌, ◌<◌, ◌≤◌, ◌^◌, ◌++◌, OnOk, IfOk, true};
 ghost use Rattle.delay_lines.specs.Rings.{IsPlace, size_of};
-ghost use Rattle.delay_lines.specs.Straight.{AreStraight};
-ghost use Rattle.delay_lines.specs.Code.{is_wide as is_wide_width, load_of, store_of, part_size as part_size_of, cursor_code, offset_code, oldest_part, push_part, next_code, before_last_code, turn_code, parts, parts_in, oldest_instrs};
+ghost use Rattle.straight_code.specs.Straight.{AreStraight, NameNoLocals};
+ghost use Rattle.memory_code.specs.Parts.{is_wide as is_wide_width, part_size as part_size_of, parts, parts_in};
+ghost use Rattle.delay_lines.specs.Code.{cursor_code, offset_code, oldest_part, push_part, next_code, before_last_code, turn_code, oldest_instrs};
 ghost use Rattle.delay_lines.specs.Promises.{CopiesOldest, IsTyped, Pushes};
 
 use crate::ring::RingPlace;
 use cm_base::NoMemory;
+use memory_code::Part;
 use std::alloc::Global;
 use wasm_tree::{BinaryOp, Code, CompareOp, Instr, LoadOp, MemArg, StoreOp, ValType};
 
@@ -14,31 +16,6 @@ fn at(offset: u32) -> MemArg
     ensures { result ≡ record { align = 0; offset = offset } }
 {
     MemArg { align: 0, offset }
-}
-
-/// Whether entries of this width are copied by parts of 8 bytes, and else of 4.
-fn is_wide(width: u32) -> bool
-    ensures { result ≡ is_wide_width width }
-{
-    width.is_multiple_of(8)
-}
-
-fn load_op(wide: bool) -> LoadOp
-    ensures { result ≡ load_of wide }
-{
-    if wide { LoadOp::I64 } else { LoadOp::I32 }
-}
-
-fn store_op(wide: bool) -> StoreOp
-    ensures { result ≡ store_of wide }
-{
-    if wide { StoreOp::I64 } else { StoreOp::I32 }
-}
-
-fn part_size(wide: bool) -> u32
-    ensures { result ≡ part_size_of wide }
-{
-    if wide { 8 } else { 4 }
 }
 
 /// The code that gives the number of the oldest entry.
@@ -69,11 +46,11 @@ fn push_oldest_part(code: &mut Code, ring: &RingPlace, to: u32, part: u32) -> Re
     requires part { part ≤ ring.now.width }
     ensures { OnOk result (code.new ≡ code.old ++ oldest_part ring.now to part) }
 {
-    let wide = is_wide(ring.width);
+    let part_of = Part::of_width(ring.width);
     code.push(Instr::I32Const(to as i32))?;
     push_offset(code, ring)?;
-    code.push(Instr::Load(load_op(wide), at(ring.first + part)))?;
-    code.push(Instr::Store(store_op(wide), at(part)))?;
+    code.push(Instr::Load(part_of.load(), at(ring.first + part)))?;
+    code.push(Instr::Store(part_of.store(), at(part)))?;
     Ok(())
 }
 
@@ -84,11 +61,11 @@ fn push_push_part(code: &mut Code, ring: &RingPlace, from: u32, part: u32) -> Re
     requires part { part ≤ ring.now.width }
     ensures { OnOk result (code.new ≡ code.old ++ push_part ring.now from part) }
 {
-    let wide = is_wide(ring.width);
+    let part_of = Part::of_width(ring.width);
     push_offset(code, ring)?;
     code.push(Instr::I32Const(from as i32))?;
-    code.push(Instr::Load(load_op(wide), at(part)))?;
-    code.push(Instr::Store(store_op(wide), at(ring.first + part)))?;
+    code.push(Instr::Load(part_of.load(), at(part)))?;
+    code.push(Instr::Store(part_of.store(), at(ring.first + part)))?;
     Ok(())
 }
 
@@ -133,7 +110,7 @@ fn oldest_parts(alloc: Global, ring: &RingPlace, to: u32) -> Result<Code, NoMemo
     requires to { to + ring.now.width < 2 ^ 31 }
     ensures { IfOk result (λ code. code ≡ oldest_instrs ring.now to) }
 {
-    let size = part_size(is_wide(ring.width));
+    let size = Part::of_width(ring.width).size();
     let mut code = Code::new(alloc);
     for part in 0..ring.width / size {
         push_oldest_part(&mut code, ring, to, part * size)?;
@@ -147,7 +124,7 @@ fn push_parts(alloc: Global, ring: &RingPlace, from: u32) -> Result<Code, NoMemo
     requires from { from + ring.now.width < 2 ^ 31 }
     ensures { IfOk result (λ code. code ≡ parts (push_part ring.now from) (part_size_of (is_wide_width ring.now.width)) (parts_in ring.now.width)) }
 {
-    let size = part_size(is_wide(ring.width));
+    let size = Part::of_width(ring.width).size();
     let mut code = Code::new(alloc);
     for part in 0..ring.width / size {
         push_push_part(&mut code, ring, from, part * size)?;
@@ -162,6 +139,7 @@ pub fn oldest_code(alloc: Global, ring: &RingPlace, to: u32) -> Result<Code, NoM
     ensures copies { IfOk result (CopiesOldest ring.now to) }
     ensures typed { IfOk result IsTyped }
     ensures straight { IfOk result AreStraight }
+    ensures no_local { IfOk result NameNoLocals }
 {
     let code = oldest_parts(alloc, ring, to)?;
     Ok(code)
@@ -175,6 +153,7 @@ pub fn push_code(alloc: Global, ring: &RingPlace, from: u32) -> Result<Code, NoM
     ensures pushes { IfOk result (Pushes ring.now from) }
     ensures typed { IfOk result IsTyped }
     ensures straight { IfOk result AreStraight }
+    ensures no_local { IfOk result NameNoLocals }
 {
     let mut code = push_parts(alloc, ring, from)?;
     push_turn(&mut code, ring)?;

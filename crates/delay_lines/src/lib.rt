@@ -2,17 +2,14 @@
 //! `specs/Rings`). `oldest_code` gives the code that copies the oldest of them to an address, and `push_code` the code
 //! that drops it and appends the one at an address. The code of a frame puts them together. Their contracts say what
 //! the code does by the standard's reduction, in how many reductions (`CopiesOldest` and `Pushes` of
-//! `specs/Promises`), that it is typed from nothing to nothing in every function (`IsTyped`), and that it opens no
-//! block, calls nothing and names no local (`AreStraight` of `specs/Straight`); `straight_code_stands` says where such
-//! code stands among other code.
+//! `specs/Promises`), that it is typed from nothing to nothing in every function (`IsTyped`), that it opens no block and
+//! calls nothing (`AreStraight` of `straight_code`), and that it names no local.
 #![tactic(auto)]
 
 mod code;
-mod laws;
 mod ring;
 
 pub use code::{oldest_code, push_code};
-pub use laws::straight_code_stands;
 pub use ring::RingPlace;
 
 #[cfg(test)]

@@ -1,4 +1,4 @@
-use Rattle.delay_lines.proofs.Typing.{oldest_typed, oldest_straight}
+use Rattle.delay_lines.proofs.Typing.{oldest_typed, oldest_straight, oldest_local_free}
 use Rattle.delay_lines.proofs.Whole.{oldest_does}
 use Rattle.delay_lines.proofs.code.oldest_code.Goals as goal
 
@@ -10,3 +10,6 @@ returns-clause-typed c = rw c.in_ok-code.ensures (oldest_typed c.args.ring.now c
 
 pub returns-clause-straight : goal.returns-clause-straight
 returns-clause-straight c = rw c.in_ok-code.ensures (oldest_straight c.args.ring.now c.args.to)
+
+pub returns-clause-no_local : goal.returns-clause-no_local
+returns-clause-no_local c = rw c.in_ok-code.ensures (oldest_local_free c.args.ring.now c.args.to)

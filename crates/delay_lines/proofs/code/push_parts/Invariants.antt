@@ -1,5 +1,6 @@
 use Rattle.std.proofs.Common.{◌≡◌}
-use Rattle.delay_lines.specs.Code.{parts, push_part}
+use Rattle.memory_code.specs.Parts.{parts}
+use Rattle.delay_lines.specs.Code.{push_part}
 use Rattle.delay_lines.proofs.code.push_parts.Given as goal
 
 abbrev pub invariant-loop-part : goal.invariant-loop-part

@@ -1,5 +1,5 @@
 -- Bytes that are loaded and stored again, and memory whose bytes are bytes.
-use Rattle.std.proofs.Common.{◌≡◌, ℕ, ◌+◌, ◌%◌, ◌/◌, ◌^◌, ◌<◌, ◌≤◌, Bool, true, false, List, [], ◌∷◌, ◌++◌, All, length, get_or, take, drop, refl, ap, ◌∙◌, arith, ⊎_elim}
+use Rattle.std.proofs.Common.{◌≡◌, ℕ, ◌+◌, ◌%◌, ◌/◌, ◌^◌, ◌<◌, ◌≤◌, Bool, true, false, List, [], ◌∷◌, ◌++◌, length, get_or, take, drop, refl, ap, ◌∙◌, arith, ⊎_elim}
 use Rattle.std.specs.Int.{w32, w64, from_le_bytes, to_le_bytes}
 use Rattle.std.proofs.Math.Nat.{mod-eq_of_lt, mod-lt}
 use Rattle.std.proofs.lemmas.Nat.{le_bytes_4, le_bytes_8}
@@ -10,10 +10,8 @@ use Rattle.std.proofs.lemmas.List.Elements.{All-nil, All-cons, All-append, All-t
 use Rattle.wasm_tree.specs.Meaning.{loaded, stored}
 use Rattle.wasm_tree.specs.Reduce.{write_bytes}
 use Rattle.wasm_steps.specs.Windows.{window}
-use Rattle.delay_lines.specs.Code.{load_of, store_of, part_size}
-
-abbrev pub AreBytes : List ℕ → Type 0
-AreBytes bytes = All (λ b. b < 256) bytes
+use Rattle.memory_code.specs.Parts.{load_of, store_of, part_size}
+use Rattle.memory_code.specs.Copies.{AreBytes}
 
 byte_small : (bytes : List ℕ) → AreBytes bytes → (i : ℕ) → get_or bytes i 0 < 256
 byte_small bytes h i = ⊎_elim

@@ -1,0 +1,4 @@
+pub mod Bytes
+pub mod Copying
+pub mod Whole
+pub mod Typing

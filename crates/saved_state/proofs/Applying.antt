@@ -1,6 +1,6 @@
 -- The values that parameters take from saved ones.
 use Rattle.std.proofs.Common.{◌≡◌, ◌≢◌, ℕ, suc, ◌+◌, ◌<◌, ◌==◌, List, [], ◌∷◌, ◌++◌, length, get_or, drop, cond, Bool, true, false, ◌&&◌, if◌then◌else◌, Option, Some, None, option_map, unwrap_or, refl, sym, ap, subst, ◌∙◌, ℤ, pos, append_assoc, drop-cons, add-one, arith}
-use Rattle.std.specs.Prelude.{option_to_list, is_some, ◌≤ℤ◌}
+use Rattle.std.specs.Prelude.{option_to_list, is_some, ◌≤ℤ◌, Result, Ok, Err, IfOk}
 use Rattle.std.specs.Str.{bytes_eq}
 use Rattle.std.specs.List.{AllByRecursion}
 use Rattle.std.proofs.lemmas.Int.{ints}
@@ -8,7 +8,7 @@ use Rattle.cm_base.specs.declared.host.Range.{Range}
 use Rattle.cm_base.specs.declared.host.HostEnd.{HostEnd}
 use Rattle.cm_base.specs.declared.play.Saved.{Saved}
 use Rattle.std.proofs.lemmas.Slice.Eq.{bytes_eq-Decides}
-use Rattle.cm_base.specs.HostEnds.{IsLawfulEnd, IsLawfulRange, AreDistinct, names_of}
+use Rattle.cm_base.specs.HostEnds.{IsLawful, IsLawfulEnd, IsLawfulRange, AreDistinct, names_of}
 use Rattle.cm_base.specs.Scripts.{IsSavedIn, AreSaved}
 use Rattle.cm_base.specs.Parts.{is_name, saved_value, start_of}
 use Rattle.cm_number.specs.Conversion.{nearest}
@@ -134,6 +134,11 @@ saved_in_range [] values distinct are = tt
 saved_in_range (end ∷ ends) values distinct are =
     let rest = saved_with ends (after_value end values) in
     (first_in end end.parameter values rest are.0, all_in ends (parameter_with end values ++ rest) rest (others_alike end values ends rest distinct.0) (saved_in_range ends (after_value end values) distinct.1 are.1))
+
+-- and so are those that a run takes
+pub restored_in_range : {E : Type 0} (ends : List HostEnd) (values : List ℤ) (r : Result (List Saved) E) → IsLawful ends → AreValues ends values → IfOk r (λ saved. saved ≡ saved_with ends values) → IfOk r (AreSaved ends)
+restored_in_range ends values (Ok saved) lawful are is = subst (AreSaved ends) (sym is) (saved_in_range ends values lawful.names are)
+restored_in_range ends values (Err e) lawful are is = tt
 
 -- ---- the same values again
 

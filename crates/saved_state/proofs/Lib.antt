@@ -1,9 +1,11 @@
 pub mod Answering
 pub mod Applying
 pub mod Codes
+pub mod Ending
 pub mod Names
 pub mod Parts
 pub mod Rows
 pub mod Saved
 pub mod Steps
+pub mod Unsaved
 pub mod Whole

@@ -49,6 +49,10 @@ abbrev pub saved_with : List HostEnd → List ℤ → List Saved
 saved_with [] values = []
 saved_with (end ∷ ends) values = parameter_with end values ++ saved_with ends (after_value end values)
 
+-- the parameters with the values that they begin with, as a run takes them
+abbrev pub restored : List HostEnd → List Saved → List Saved
+restored ends saved = saved_with ends (values_of ends saved)
+
 abbrev pub state_with : List HostEnd → List ℤ → List ℕ → Snapshot → Version2
 state_with ends values module_bytes snapshot = record { saved = saved_with ends values; module_bytes = module_bytes; snapshot = snapshot }
 

@@ -1,4 +1,5 @@
 pub mod Applied
+pub mod Finals
 pub mod Reading
 pub mod State
 pub mod Version1

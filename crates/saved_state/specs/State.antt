@@ -1,5 +1,5 @@
 -- State files, and what reading one answers: docs/COMMANDS.md, "State file".
-use Rattle.std.specs.Prelude.{ℕ, ◌≡◌, List, Bool, IsTrue, IsFalse, take, Ok, Err}
+use Rattle.std.specs.Prelude.{ℕ, ◌≡◌, List, Bool, IsTrue, IsFalse, if◌then◌else◌, take, Ok, Err}
 use Rattle.std.specs.Str.{bytes_eq}
 use Rattle.cm_base.specs.declared.play.Saved.{Saved}
 use Rattle.cm_base.specs.declared.forms.FormFault.{FormFault}
@@ -17,6 +17,15 @@ use Rattle.saved_state.specs.Version2.{mark, IsVersion2}
 -- the file begins with the mark of version 2
 abbrev pub is_version_2 : List ℕ → Bool
 is_version_2 bytes = bytes_eq (take 4 bytes) mark
+
+-- how many bytes a file may have when it is read, by its version
+abbrev pub limit_of : List ℕ → ℕ
+limit_of bytes = if is_version_2 bytes then 67108864 else 1048576
+
+-- the parameters that a state has
+abbrev pub parameters_in : State → List Saved
+parameters_in (states.Version1 saved) = saved
+parameters_in (states.Version2 state) = state.saved
 
 -- the state that a file has
 pub data IsState (bytes : List ℕ) : State → Type 0 where

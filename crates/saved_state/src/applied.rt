@@ -12,7 +12,7 @@ use std::alloc::{AllocError, Global};
 use std::collections::HashMap;
 
 /// The first value that is saved under each name.
-fn by_name(alloc: Global, saved: &[Saved]) -> Result<HashMap<&str, i64>, AllocError>
+pub(crate) fn by_name(alloc: Global, saved: &[Saved]) -> Result<HashMap<&str, i64>, AllocError>
     ensures { IfOk result (λ map. (name : List ℕ) → get_by (λ key. bytes_eq name key.now) map ≡ saved_value name saved.now) }
 {
     let mut map = HashMap::with_capacity(alloc, saved.len())?;
@@ -23,7 +23,7 @@ fn by_name(alloc: Global, saved: &[Saved]) -> Result<HashMap<&str, i64>, AllocEr
     Ok(map)
 }
 
-fn saved_or(map: &HashMap<&str, i64>, name: &str, other: i64) -> i64
+pub(crate) fn saved_or(map: &HashMap<&str, i64>, name: &str, other: i64) -> i64
     ensures { result ≡ unwrap_or (get_by (λ key. bytes_eq name.now key.now) map.now) other }
 {
     match map.get(name) {

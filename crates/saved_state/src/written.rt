@@ -81,11 +81,10 @@ fn push_parameter<'v>(
     values: &'v [i64],
 ) -> Result<&'v [i64], NoMemory>
     requires lawful { IsLawfulEnd end.now }
-    requires short { IsCounted end.now.name }
     requires in_range { IsValueOf end.now.parameter values.now }
     ensures saved { OnOk result (saved.new ≡ saved.old ++ parameter_with end.now values.now) }
     ensures rest { IfOk result (λ rest. rest.now ≡ after_value end.now values.now) }
-    ensures writable { OnOk result (AllByRecursion IsParameter saved.old → AllByRecursion IsParameter saved.new) }
+    ensures writable { OnOk result (IsCounted end.now.name → AllByRecursion IsParameter saved.old → AllByRecursion IsParameter saved.new) }
     ensures few { OnOk result (length saved.new ≤ length saved.old + 1) }
 {
     if end.parameter.is_none() {
@@ -105,12 +104,15 @@ fn push_parameter<'v>(
 }
 
 /// The parameters with their values.
-fn parameters_of(alloc: Global, host: &[HostEnd], values: &[i64]) -> Result<SavedList, NoMemory>
+pub(crate) fn parameters_of(
+    alloc: Global,
+    host: &[HostEnd],
+    values: &[i64],
+) -> Result<SavedList, NoMemory>
     requires lawful { IsLawful host.now }
-    requires short { AllByRecursion (λ end. IsCounted end.name) host.now }
     requires in_range { AreValues host.now values.now }
     ensures saved { IfOk result (λ saved. saved ≡ saved_with host.now values.now) }
-    ensures writable { IfOk result (AllByRecursion IsParameter) }
+    ensures writable { IfOk result (λ saved. AllByRecursion (λ end. IsCounted end.name) host.now → AllByRecursion IsParameter saved) }
     ensures few { IfOk result IsCounted }
 {
     let mut saved = SavedList::new(alloc);

@@ -10,6 +10,5 @@ invariant-loop-end l =
     (l.saved ++ saved_with (drop l.end-index l.host) l.left ≡ saved_with l.host l.values) ×
     AreValues (drop l.end-index l.host) l.left ×
     AllByRecursion IsLawfulEnd (drop l.end-index l.host) ×
-    AllByRecursion (λ end. IsCounted end.name) (drop l.end-index l.host) ×
-    AllByRecursion IsParameter l.saved ×
+    (AllByRecursion (λ end. IsCounted end.name) l.host → AllByRecursion (λ end. IsCounted end.name) (drop l.end-index l.host) × AllByRecursion IsParameter l.saved) ×
     (length l.saved ≤ l.end-index)

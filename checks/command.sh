@@ -54,12 +54,40 @@ same examples/through/lines.txt "$dir/lines"
 holds "$dir/stderr" "listener 0 heard 3"
 expect 1 "usage" render "$patch" "$script"
 expect 1 "usage" render "$patch" "$script" 1048577
-expect 1 "usage" render "$patch" "$script" 10 state
+expect 1 "usage" render "$patch" "$script" 10 ""
+expect 1 "usage" render "$patch" "$script" 10 state more
 expect 2 "absent $dir/none.cmajorpatch" render "$dir/none.cmajorpatch" "$script" 10
 expect 2 "absent $dir/none.json" render "$patch" "$dir/none.json" 10
 expect 3 "read fault $dir/folder" render "$patch" "$dir/folder" 10
 expect 4 "too big $dir/long.cmajorpatch" render "$dir/long.cmajorpatch" "$script" 10
 expect 5 "refused NotYet $dir/other/through.cmajor:1:1" render "$dir/other/through.cmajorpatch" "$script" 10
+
+# a state file of either version, and what is refused before the script is read
+printf '{"parameters":{"old":1},"version":1}' >"$dir/state-1"
+{ printf CMS2; head -c 20 /dev/zero; } >"$dir/state-2"
+for state in "$dir/state-1" "$dir/state-2"; do
+  "$built" render "$patch" "$script" 10 "$state" >"$dir/lines" 2>"$dir/stderr" || differs "render from $state: status $?"
+  same examples/through/lines.txt "$dir/lines"
+  holds "$dir/stderr" "listener 0 heard 3"
+done
+expect 2 "absent $dir/none" render "$patch" "$dir/none.json" 10 "$dir/none"
+expect 2 "absent $dir/none.json" render "$patch" "$dir/none.json" 10 "$dir/state-1"
+expect 3 "read fault $dir/folder" render "$patch" "$script" 10 "$dir/folder"
+printf '[]' >"$dir/state"
+expect 6 "state refused Shape Whole 0" render "$patch" "$dir/none.json" 10 "$dir/state"
+printf '{"parameters":{"a":1,"b":true},"version":1}' >"$dir/state"
+expect 6 "state refused Scalar Parameters 1" render "$patch" "$script" 10 "$dir/state"
+printf '{"parameters":{},"version":2}' >"$dir/state"
+expect 6 "state refused Version Whole 0" render "$patch" "$script" 10 "$dir/state"
+head -c 3 "$dir/state-2" >"$dir/state"
+expect 6 "state refused Json Whole 0" render "$patch" "$script" 10 "$dir/state"
+head -c 23 "$dir/state-2" >"$dir/state"
+expect 6 "state refused Shape Whole 0" render "$patch" "$script" 10 "$dir/state"
+truncate -s 1048577 "$dir/state-1" "$dir/state-2"
+expect 4 "too big $dir/state-1" render "$patch" "$script" 10 "$dir/state-1"
+expect 6 "state refused Shape Whole 0" render "$patch" "$script" 10 "$dir/state-2"
+truncate -s 67108865 "$dir/state-2"
+expect 4 "too big $dir/state-2" render "$patch" "$script" 10 "$dir/state-2"
 "$built" play "$out" "$script" 100 >"$dir/lines" 2>"$dir/stderr" || differs "play: status $?"
 same examples/through/lines.txt "$dir/lines"
 holds "$dir/stderr" "listener 0 heard 3"

@@ -16,7 +16,7 @@ use Rattle.commands.specs.Due.{IsDue, IsDueFor}
 use Rattle.commands.specs.Files.{KeepsUnwritten}
 use Rattle.commands.specs.Patch.{MeanPatch, NamePatch, PatchOf, NamedPatchOf}
 use Rattle.commands.specs.Statuses.{Reads, MayAnswer, HasCause, OnExplained, OnUnwritten}
-use Rattle.commands.specs.Steps.{Stopped, FileAbsent, ReadFailed, FileTooBig, PatchRefused, ModuleIsRefused, ScriptRefused, OutOfMemory, Unwritten, WriteFailed, WriteLacksMemory, Ends, EndsWords, ended}
+use Rattle.commands.specs.Steps.{Stopped, FileAbsent, ReadFailed, FileTooBig, PatchRefused, ModuleIsRefused, StateIsRefused, ScriptRefused, OutOfMemory, Unwritten, WriteFailed, WriteLacksMemory, Ends, EndsWords, ended}
 use Rattle.commands.specs.Words.{Command, Compile, Render, Play, command_of, file_written}
 use Rattle.commands.proofs.StepLemmas.{told, rose_later}
 
@@ -31,7 +31,7 @@ others_kept held held' name e = subst (λ (h : Option Files). KeepsOthers held h
 
 kept : (command : Command) (before after : Seen) → after.holds ≡ before.holds → KeepsUnwritten (file_written (Some command)) before after
 kept (Compile manifest out) before after e = others_kept before.holds after.holds out e
-kept (Render manifest input turns) before after e = e
+kept (Render manifest input turns state) before after e = e
 kept (Play wasm input steps) before after e = e
 
 -- a step that stops before anything is written ends the command
@@ -47,6 +47,8 @@ stop_ends command before after due s same goes (PatchRefused r m d) =
     record { may = m; explained = told before.holds _ _ (λ files. goes files (status.Refused r)) d; caused = tt; done = λ e. cc; others = kept command before after same; unwritten = same }
 stop_ends command before after due s same goes (ModuleIsRefused r m d) =
     record { may = m; explained = told before.holds _ _ (λ files. goes files (status.ModuleRefused r)) d; caused = tt; done = λ e. cc; others = kept command before after same; unwritten = same }
+stop_ends command before after due s same goes (StateIsRefused f m d) =
+    record { may = m; explained = told before.holds _ _ (λ files. goes files (status.StateRefused f)) d; caused = tt; done = λ e. cc; others = kept command before after same; unwritten = same }
 stop_ends command before after due s same goes (ScriptRefused f m d) =
     record { may = m; explained = told before.holds _ _ (λ files. goes files (status.InputRefused f)) d; caused = tt; done = λ e. cc; others = kept command before after same; unwritten = same }
 stop_ends command before after due s same goes OutOfMemory =

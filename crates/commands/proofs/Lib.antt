@@ -4,4 +4,5 @@ pub mod ManifestLemmas
 pub mod PatchLemmas
 pub mod EndLemmas
 pub mod PlayLemmas
+pub mod RestoreLemmas
 pub mod RenderLemmas

@@ -150,12 +150,6 @@ meaning_stop before mid after manifest names texts s first second named have Lac
 pub memory_stop : (before after : Seen) (reads : FileRef → Type 0) (due : Files → Status → Type 0) (s : Status) → s ≡ status.NoMemory → Stopped before after reads due s
 memory_stop before after reads due s is = subst (Stopped before after reads due) (sym is) OutOfMemory
 
--- a read that is given a name
-pub named_stop : (X : Type 0) (step : Result X Status) (r : Result X Stop) (before after : Seen) (reads : FileRef → Type 0) (due : Files → Status → Type 0)
-    → MatchResult r (λ value. step ≡ Ok value) (λ stop. (step ≡ Err stop.status) ⊎ (stop.status ≡ status.NoMemory)) → IfErr step (Stopped before after reads due) → IfErr r (λ stop. Stopped before after reads due stop.status)
-named_stop X step (Ok value) before after reads due named p = tt
-named_stop X step (Err stop) before after reads due named p = about_err X step stop before after reads due named p
-
 -- the texts mean no patch
 pub no_meaning_stop : (r : Result Through Stop) (before mid after : Seen) (manifest : List ℕ) (names texts : List (List ℕ)) → OnlyRead before mid → OnlyRead mid after → IfSome before.holds (λ files. SourcesOf files manifest names)
     → IfSome mid.holds (λ files. HaveTexts files all_sources names texts) → IfErr r (λ stop. Refuses (RefusesTexts texts) stop.status) → IfErr r (λ stop. Stopped before after IsPatchFile (λ files. NoPatch files manifest) stop.status)

@@ -1,10 +1,11 @@
 -- How `play` ends.
-use Rattle.std.proofs.Common.{◌≡◌, ℕ, List, Option, Some, None, refl, sym, subst, false, inl, inr}
+use Rattle.std.proofs.Common.{◌≡◌, ℕ, List, [], Option, Some, None, refl, sym, subst, false, inl, inr}
 use Rattle.std.specs.Prelude.{IfSome, Err, ◌⊎◌}
 use Rattle.cm_base.specs.declared.forms.FormFail.{FormFail}
 use Rattle.cm_base.specs.declared.forms.FormFail.TheVariants as no_script
 use Rattle.cm_base.specs.declared.forms.FormFault.{FormFault}
 use Rattle.cm_base.specs.declared.host.HostEnd.{HostEnd}
+use Rattle.cm_base.specs.declared.play.Saved.{Saved}
 use Rattle.cm_base.specs.declared.play.Script.{Script}
 use Rattle.cm_base.specs.Players.{Ending, Ended, Out, Trapped}
 use Rattle.cm_io.specs.Files.{Files}
@@ -32,7 +33,7 @@ use Rattle.commands.specs.declared.status.Status.TheVariants as status
 use Rattle.commands.specs.Files.{HasFile, Unread, AfterFile, IsPlayFile, least_limit}
 use Rattle.commands.specs.Playing.{HasModule, RefusesModule, Misspelled, Invalid, NoModule, HasScript, RefusesScript, Malformed, NoScript, IsPlayDue, IsBefore, RunIsTold, PlayRuns, run_of}
 use Rattle.commands.specs.Statuses.{MayAnswer, HasCause, OnExplained, OnUnwritten, status_of_module, status_of_run}
-use Rattle.commands.specs.Steps.{Stopped, FileAbsent, ReadFailed, FileTooBig, PatchRefused, ModuleIsRefused, ScriptRefused, OutOfMemory, Ends}
+use Rattle.commands.specs.Steps.{Stopped, FileAbsent, ReadFailed, FileTooBig, PatchRefused, ModuleIsRefused, StateIsRefused, ScriptRefused, OutOfMemory, Ends}
 use Rattle.commands.specs.Words.{Play}
 use Rattle.commands.proofs.StepLemmas.{told, told_both, told_all, stop_of, stop_later}
 
@@ -93,6 +94,7 @@ stopped_before before after reads due _ (ReadFailed f r rose) = tt
 stopped_before before after reads due _ (FileTooBig f n r past d) = tt
 stopped_before before after reads due _ (PatchRefused r m d) = tt
 stopped_before before after reads due _ (ModuleIsRefused r m d) = tt
+stopped_before before after reads due _ (StateIsRefused fault m d) = tt
 stopped_before before after reads due _ (ScriptRefused fault m d) = tt
 stopped_before before after reads due _ OutOfMemory = tt
 
@@ -137,9 +139,9 @@ cut_explained (heard.ListenerLacksMemory number) P not = tt
 
 -- the end that is due explains the answer, and any other is a fault or want of memory
 told_explained : (m : Module) (section : CmajorSection) (script : Script) (steps : ℕ) (before after : Outside) (end : RunEnd) (P : Status → Type 0) →
-    P (status_of_run (end_of (run_of m section script steps).ending)) → RunTells (ends_of section) (run_of m section script steps) before after end → OnExplained (status_of_run end) (P (status_of_run end))
+    P (status_of_run (end_of (run_of m section [] script steps).ending)) → RunTells (ends_of section) (run_of m section [] script steps) before after end → OnExplained (status_of_run end) (P (status_of_run end))
 told_explained m section script steps before after end P due (Whole is told) =
-    subst (λ (e : RunEnd). OnExplained (status_of_run e) (P (status_of_run e))) (sym is) (run_explained (run_of m section script steps).ending P due)
+    subst (λ (e : RunEnd). OnExplained (status_of_run e) (P (status_of_run e))) (sym is) (run_explained (run_of m section [] script steps).ending P due)
 told_explained m section script steps before after end P due (Cut first item others between answer parts told tells not is) =
     subst (λ (e : RunEnd). OnExplained (status_of_run e) (P (status_of_run e))) (sym is) (cut_explained answer P not)
 told_explained m section script steps before after end P due (NotBegun is same) =
@@ -149,6 +151,12 @@ pub both_told : (held held' : Option Files) → IfSome held (λ old. IfSome held
 both_told None held' = tt
 both_told (Some old) None = tt
 both_told (Some old) (Some new) = tt
+
+-- the run that is told begins with nothing saved
+pub run_is_told : (m : Module) (section : CmajorSection) (saved : List Saved) (script : Script) (steps : ℕ) (before after : Outside) (end : RunEnd) (s : Status) → saved ≡ [] →
+    RunTells (ends_of section) (run_of m section saved script steps) before after end → s ≡ status_of_run end → RunIsTold m section script steps before after s
+run_is_told m section saved script steps before after end s none tells answered =
+    record { end = end; answered = answered; tells = subst (λ (l : List Saved). RunTells (ends_of section) (run_of m section l script steps) before after end) none tells }
 
 -- `play` ends with the end of its run
 pub run_ends : (before after : Seen) (wasm input : List ℕ) (steps : ℕ) (m : Module) (section : CmajorSection) (script : Script) (out out' : Outside) (s : Status) → after.holds ≡ before.holds →

@@ -11,7 +11,7 @@ use Rattle.commands.specs.declared.status.Status.{Status}
 use Rattle.commands.specs.declared.status.Status.TheVariants as status
 use Rattle.commands.specs.declared.stop.Stop.{Stop}
 use Rattle.commands.specs.Files.{AfterFile, HasFile, IsPatchFile, Unread}
-use Rattle.commands.specs.Steps.{Stopped, FileAbsent, ReadFailed, FileTooBig, PatchRefused, ModuleIsRefused, ScriptRefused, OutOfMemory, Refuses, Refusal, LacksMemory}
+use Rattle.commands.specs.Steps.{Stopped, FileAbsent, ReadFailed, FileTooBig, PatchRefused, ModuleIsRefused, StateIsRefused, ScriptRefused, OutOfMemory, Refuses, Refusal, LacksMemory}
 
 -- ---- what is told
 
@@ -48,6 +48,7 @@ stop_of before after reads reads' P due due' s more is goes (ReadFailed f r rose
 stop_of before after reads reads' P due due' s more is goes (FileTooBig f n r past d) = FileTooBig f n (more f r) past (told_both before.holds P _ _ (λ files. goes files (status.TooBig f n)) is d)
 stop_of before after reads reads' P due due' s more is goes (PatchRefused r m d) = PatchRefused r (more file.Manifest m) (told_both before.holds P _ _ (λ files. goes files (status.Refused r)) is d)
 stop_of before after reads reads' P due due' s more is goes (ModuleIsRefused r m d) = ModuleIsRefused r (more file.Module m) (told_both before.holds P _ _ (λ files. goes files (status.ModuleRefused r)) is d)
+stop_of before after reads reads' P due due' s more is goes (StateIsRefused f m d) = StateIsRefused f (more file.State m) (told_both before.holds P _ _ (λ files. goes files (status.StateRefused f)) is d)
 stop_of before after reads reads' P due due' s more is goes (ScriptRefused f m d) = ScriptRefused f (more file.Input m) (told_both before.holds P _ _ (λ files. goes files (status.InputRefused f)) is d)
 stop_of before after reads reads' P due due' s more is goes OutOfMemory = OutOfMemory
 
@@ -59,6 +60,7 @@ stop_later before mid after reads due s read stay (ReadFailed f r rose) = ReadFa
 stop_later before mid after reads due s read stay (FileTooBig f n r past d) = FileTooBig f n r past (subst (λ (h : Option Files). IfSome h (λ files. due files (status.TooBig f n))) read.files d)
 stop_later before mid after reads due s read stay (PatchRefused r m d) = PatchRefused r m (subst (λ (h : Option Files). IfSome h (λ files. due files (status.Refused r))) read.files d)
 stop_later before mid after reads due s read stay (ModuleIsRefused r m d) = ModuleIsRefused r m (subst (λ (h : Option Files). IfSome h (λ files. due files (status.ModuleRefused r))) read.files d)
+stop_later before mid after reads due s read stay (StateIsRefused f m d) = StateIsRefused f m (subst (λ (h : Option Files). IfSome h (λ files. due files (status.StateRefused f))) read.files d)
 stop_later before mid after reads due s read stay (ScriptRefused f m d) = ScriptRefused f m (subst (λ (h : Option Files). IfSome h (λ files. due files (status.InputRefused f))) read.files d)
 stop_later before mid after reads due s read stay OutOfMemory = OutOfMemory
 
@@ -95,3 +97,9 @@ pub about_err : (X : Type 0) (step : Result X Status) (stop : Stop) (before afte
     ((step ≡ Err stop.status) ⊎ (stop.status ≡ status.NoMemory)) → IfErr step (Stopped before after reads due) → Stopped before after reads due stop.status
 about_err X step stop before after reads due (inl e) p = subst (λ (q : Result X Status). IfErr q (Stopped before after reads due)) e p
 about_err X step stop before after reads due (inr e) p = subst (Stopped before after reads due) (sym e) OutOfMemory
+
+-- a read that is given a name
+pub named_stop : (X : Type 0) (step : Result X Status) (r : Result X Stop) (before after : Seen) (reads : FileRef → Type 0) (due : Files → Status → Type 0)
+    → MatchResult r (λ value. step ≡ Ok value) (λ stop. (step ≡ Err stop.status) ⊎ (stop.status ≡ status.NoMemory)) → IfErr step (Stopped before after reads due) → IfErr r (λ stop. Stopped before after reads due stop.status)
+named_stop X step (Ok value) before after reads due named p = tt
+named_stop X step (Err stop) before after reads due named p = about_err X step stop before after reads due named p

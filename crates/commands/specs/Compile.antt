@@ -35,5 +35,5 @@ pub record IsCompiled (old new : Files) (manifest out : List ℕ) : Type 0 where
 -- The command did its work. What `render` and `play` tell is said for every answer.
 abbrev pub IsDone : Command → Files → Files → Type 0
 IsDone (Compile manifest out) old new = IsCompiled old new manifest out
-IsDone (Render manifest input turns) old new = Unit {0}
+IsDone (Render manifest input turns state) old new = Unit {0}
 IsDone (Play wasm input steps) old new = Unit {0}

@@ -9,10 +9,10 @@ use Rattle.commands.specs.Playing.{IsPlayDue}
 use Rattle.commands.specs.Rendering.{IsRenderDue}
 use Rattle.commands.specs.Words.{Command, Compile, Render, Play, command_of}
 
--- of `compile`: there is no patch, or its module can be made; of `render`: there is no patch or no script, or the run decides; of `play`: there is no module or no script, or the run decides
+-- of `compile`: there is no patch, or its module can be made; of `render`: there is no patch, no state or no script, or the run decides; of `play`: there is no module or no script, or the run decides
 abbrev pub IsDueFor : Command → Files → Status → Type 0
 IsDueFor (Compile manifest out) files due = NoPatch files manifest due ⊎ ((patch : Linked) × PatchOf files manifest patch × (due ≡ status.Ok))
-IsDueFor (Render manifest input turns) files due = IsRenderDue files manifest input turns due
+IsDueFor (Render manifest input turns state) files due = IsRenderDue files manifest input turns state due
 IsDueFor (Play wasm input steps) files due = IsPlayDue files wasm input steps due
 
 -- the status is due

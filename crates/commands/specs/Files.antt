@@ -32,13 +32,18 @@ IsPlayFile file.State = ⊥
 IsPlayFile file.Input = Unit {0}
 IsPlayFile file.Module = Unit {0}
 
--- the files of `render`: those of the patch and the script
-abbrev pub IsRenderFile : FileRef → Type 0
-IsRenderFile file.Manifest = Unit {0}
-IsRenderFile (file.Source number) = (1 ≤ number) × (number ≤ 64)
-IsRenderFile file.State = ⊥
-IsRenderFile file.Input = Unit {0}
-IsRenderFile file.Module = ⊥
+-- the state file with whose parameters a run begins, where one is named
+abbrev pub IsStateFile : (state : Option (List ℕ)) → FileRef → Type 0
+IsStateFile None f = ⊥
+IsStateFile (Some name) f = f ≡ file.State
+
+-- the files of `render`: those of the patch, the state that is named and the script
+abbrev pub IsRenderFile : (state : Option (List ℕ)) → FileRef → Type 0
+IsRenderFile state file.Manifest = Unit {0}
+IsRenderFile state (file.Source number) = (1 ≤ number) × (number ≤ 64)
+IsRenderFile state file.State = IsStateFile state file.State
+IsRenderFile state file.Input = Unit {0}
+IsRenderFile state file.Module = ⊥
 
 -- the file of this name has these bytes, no more than its limit
 pub record HasFile (files : Files) (name : List ℕ) (limit : ℕ) (bytes : List ℕ) : Type 0 where

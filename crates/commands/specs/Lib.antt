@@ -4,6 +4,7 @@ pub mod Files
 pub mod Patch
 pub mod Playing
 pub mod Rendering
+pub mod Restoring
 pub mod Statuses
 pub mod Steps
 pub mod Told

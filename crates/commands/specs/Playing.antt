@@ -2,6 +2,7 @@
 use Rattle.std.specs.Prelude.{ℕ, ◌≡◌, ◌⊎◌, List, [], Option, Ok, Err, IfSome}
 use Rattle.cm_base.specs.declared.forms.FormFault.{FormFault}
 use Rattle.cm_base.specs.declared.host.HostEnd.{HostEnd}
+use Rattle.cm_base.specs.declared.play.Saved.{Saved}
 use Rattle.cm_base.specs.declared.play.Script.{Script}
 use Rattle.cm_base.specs.Players.{Outcome}
 use Rattle.cm_io.specs.Files.{Files}
@@ -59,15 +60,15 @@ NoScript files name ends due = AfterFile files file.Input name (least_limit file
 
 -- ---- the run
 
--- the run of a module over a script with so many reductions for each part, from the starts of its parameters' ranges on
-abbrev pub run_of : Module → CmajorSection → Script → (steps : ℕ) → Outcome
-run_of m section script steps = host_run m section [] script script.frames steps
+-- the run of a module over a script with so many reductions for each part, from saved parameters on
+abbrev pub run_of : Module → CmajorSection → List Saved → Script → (steps : ℕ) → Outcome
+run_of m section saved script steps = host_run m section saved script script.frames steps
 
 -- what is due for the script, where there is one and no earlier answer came: the run decides
 abbrev pub DueOver : Files → List ℕ → (steps : ℕ) → Module → CmajorSection → Status → Type 0
 DueOver files input steps m section due =
     NoScript files input (ends_of section) due
-    ⊎ ((script : Script) × HasScript files input (ends_of section) script × (due ≡ status_of_run (end_of (run_of m section script steps).ending)))
+    ⊎ ((script : Script) × HasScript files input (ends_of section) script × (due ≡ status_of_run (end_of (run_of m section [] script steps).ending)))
 
 -- what is due for `play`
 abbrev pub IsPlayDue : Files → (wasm input : List ℕ) → (steps : ℕ) → Status → Type 0
@@ -83,15 +84,16 @@ IsBefore (status.ReadFault f) = Unit {0}
 IsBefore (status.TooBig f length) = Unit {0}
 IsBefore (status.Refused refused) = Unit {0}
 IsBefore (status.ModuleRefused refused) = Unit {0}
+IsBefore (status.StateRefused fault) = Unit {0}
 IsBefore (status.InputRefused fault) = Unit {0}
 IsBefore status.NoMemory = Unit {0}
 IsBefore _ = ⊥
 
--- the run of a module is told, and the answer is that of its end
+-- the run of a module is told that begins with nothing saved, and the answer is that of its end
 pub record RunIsTold (m : Module) (section : CmajorSection) (script : Script) (steps : ℕ) (before after : Outside) (answer : Status) : Type 0 where
   pub end : RunEnd
   pub answered : answer ≡ status_of_run end
-  pub tells : RunTells (ends_of section) (run_of m section script steps) before after end
+  pub tells : RunTells (ends_of section) (run_of m section [] script steps) before after end
 
 -- the run of a valid module over a script is told; where files are told, they held both
 pub record PlayRuns (held : Option Files) (wasm input : List ℕ) (steps : ℕ) (before after : Outside) (answer : Status) : Type 0 where

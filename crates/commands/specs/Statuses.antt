@@ -64,29 +64,29 @@ status_of_patch_run end = status_of_run end
 -- the files that a command reads
 abbrev pub Reads : Command → FileRef → Type 0
 Reads (Compile manifest out) f = IsPatchFile f
-Reads (Render manifest input turns) f = IsRenderFile f
+Reads (Render manifest input turns state) f = IsRenderFile state f
 Reads (Play wasm input steps) f = IsPlayFile f
 
 -- what a command writes
 abbrev pub Writes : Command → Target → Type 0
 Writes (Compile manifest out) t = t ≡ target.File
-Writes (Render manifest input turns) t = t ≡ target.Out
+Writes (Render manifest input turns state) t = t ≡ target.Out
 Writes (Play wasm input steps) t = t ≡ target.Out
 
 -- the commands that run a patch
 abbrev pub RunsPatch : Command → Type 0
 RunsPatch (Compile manifest out) = ⊥
-RunsPatch (Render manifest input turns) = Unit {0}
+RunsPatch (Render manifest input turns state) = Unit {0}
 RunsPatch (Play wasm input steps) = ⊥
 
 -- the commands that run a module that they are given
 abbrev pub RunsModule : Command → Type 0
 RunsModule (Compile manifest out) = ⊥
-RunsModule (Render manifest input turns) = ⊥
+RunsModule (Render manifest input turns state) = ⊥
 RunsModule (Play wasm input steps) = Unit {0}
 
 -- A command answers for the files that it reads, also by refusing them, and for what it writes; one that runs a patch or a
--- module answers for the run and for the listeners. No command reads a state so far.
+-- module answers for the run and for the listeners.
 abbrev pub MayAnswer : Command → Status → Type 0
 MayAnswer command status.Ok = Unit {0}
 MayAnswer command status.NoMemory = Unit {0}
@@ -94,6 +94,7 @@ MayAnswer command (status.Absent f) = Reads command f
 MayAnswer command (status.ReadFault f) = Reads command f
 MayAnswer command (status.TooBig f length) = Reads command f
 MayAnswer command (status.Refused r) = Reads command file.Manifest
+MayAnswer command (status.StateRefused fault) = Reads command file.State
 MayAnswer command (status.InputRefused fault) = Reads command file.Input
 MayAnswer command (status.ModuleRefused refused) = Reads command file.Module
 MayAnswer command (status.TurnsSpent at) = RunsPatch command

@@ -26,6 +26,7 @@ pub data Stopped (before after : Seen) (reads : FileRef → Type 0) (due : Files
   FileTooBig : (f : FileRef) → (n : ℕ) → reads f → least_limit f < n → IfTold before (λ files. due files (status.TooBig f n)) → Stopped before after reads due (status.TooBig f n)
   PatchRefused : (r : Refused) → reads file.Manifest → IfTold before (λ files. due files (status.Refused r)) → Stopped before after reads due (status.Refused r)
   ModuleIsRefused : (r : ModuleRefused) → reads file.Module → IfTold before (λ files. due files (status.ModuleRefused r)) → Stopped before after reads due (status.ModuleRefused r)
+  StateIsRefused : (fault : FormFault) → reads file.State → IfTold before (λ files. due files (status.StateRefused fault)) → Stopped before after reads due (status.StateRefused fault)
   ScriptRefused : (fault : FormFault) → reads file.Input → IfTold before (λ files. due files (status.InputRefused fault)) → Stopped before after reads due (status.InputRefused fault)
   OutOfMemory : Stopped before after reads due status.NoMemory
 

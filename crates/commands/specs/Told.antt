@@ -10,7 +10,7 @@ use Rattle.commands.specs.Words.{Command, Compile, Render, Play}
 -- what a command puts to the output and has the listeners hear, by its answer and by what the folder held
 abbrev pub TellsFor : Command → Option Files → (before after : Outside) → Status → Type 0
 TellsFor (Compile manifest out) held before after answer = after ≡ before
-TellsFor (Render manifest input turns) held before after answer = (IsBefore answer × (after ≡ before)) ⊎ RenderRuns held manifest input turns before after answer
+TellsFor (Render manifest input turns state) held before after answer = (IsBefore answer × (after ≡ before)) ⊎ RenderRuns held manifest input turns state before after answer
 TellsFor (Play wasm input steps) held before after answer = (IsBefore answer × (after ≡ before)) ⊎ PlayRuns held wasm input steps before after answer
 
 -- words of no command tell nothing

@@ -1,5 +1,6 @@
 -- The words of the command line: docs/COMMANDS.md, "Commands".
 use Rattle.std.specs.Prelude.{ℕ, ◌≤◌, ◌+◌, ◌*◌, ◌-◌, ◌^◌, List, [], ◌∷◌, Option, Some, None, option_map, option_and_then, Bool, not, length, ◌==◌, ◌&&◌, nat_le, if◌then◌else◌, codes}
+use Rattle.std.specs.Borrow.{Bor}
 use Rattle.std.specs.Str.{bytes_eq}
 use Rattle.commands.specs.declared.words.Command.{Command as Found}
 use Rattle.commands.specs.declared.words.Command.TheVariants as found
@@ -8,8 +9,9 @@ use Rattle.commands.specs.declared.words.Command.TheVariants as found
 pub data Command : Type 0 where
   -- compile the patch of a manifest, and write its module to a file
   Compile : (manifest out : List ℕ) → Command
-  -- compile the patch of a manifest, and run it over a script with so many turns for each part
-  Render : (manifest input : List ℕ) (turns : ℕ) → Command
+  -- compile the patch of a manifest, and run it over a script with so many turns for each part; its parameters begin with
+  -- what a state file saves, where one is named
+  Render : (manifest input : List ℕ) (turns : ℕ) (state : Option (List ℕ)) → Command
   -- play a module over a script, with so many reductions for each part of its run
   Play : (wasm input : List ℕ) (steps : ℕ) → Command
 
@@ -45,28 +47,30 @@ most_steps = 2 ^ 56
 abbrev pub most_turns : ℕ
 most_turns = 1048576
 
--- the command that renders these files, where they are names and the last word is a number of turns
-abbrev pub command_rendering : (manifest input turns : List ℕ) → Option Command
-command_rendering manifest input turns = if is_file_word manifest && is_file_word input then option_map (Render manifest input) (number_within most_turns turns) else None
+-- the command of two files and a number, where the files are names and the number is within its limit
+abbrev pub command_running : (make : ℕ → Command) → (most : ℕ) → (file input number : List ℕ) → Option Command
+command_running make most file input number = if is_file_word file && is_file_word input then option_map make (number_within most number) else None
 
--- `render M INPUT TURNS`
+-- the name of a file that may stand last
+abbrev pub last_file : List (List ℕ) → Option (Option (List ℕ))
+last_file [] = Some None
+last_file (name ∷ []) = if is_file_word name then Some (Some name) else None
+last_file (name ∷ other ∷ others) = None
+
+-- `render M INPUT TURNS [STATE]`
 abbrev pub render_of : List (List ℕ) → Option Command
 render_of [] = None
 render_of (manifest ∷ []) = None
 render_of (manifest ∷ input ∷ []) = None
-render_of (manifest ∷ input ∷ turns ∷ []) = command_rendering manifest input turns
-render_of (manifest ∷ input ∷ turns ∷ other ∷ others) = None
-
--- the command that plays these files, where they are names and the last word is a number of reductions
-abbrev pub command_playing : (wasm input steps : List ℕ) → Option Command
-command_playing wasm input steps = if is_file_word wasm && is_file_word input then option_map (Play wasm input) (number_within most_steps steps) else None
+render_of (manifest ∷ input ∷ turns ∷ words) =
+    option_and_then (λ state. command_running (λ number. Render manifest input number state) most_turns manifest input turns) (last_file words)
 
 -- `play WASM INPUT STEPS`
 abbrev pub play_of : List (List ℕ) → Option Command
 play_of [] = None
 play_of (wasm ∷ []) = None
 play_of (wasm ∷ input ∷ []) = None
-play_of (wasm ∷ input ∷ steps ∷ []) = command_playing wasm input steps
+play_of (wasm ∷ input ∷ steps ∷ []) = command_running (Play wasm input) most_steps wasm input steps
 play_of (wasm ∷ input ∷ steps ∷ other ∷ others) = None
 
 -- the command that the words are, compared byte for byte
@@ -74,21 +78,26 @@ abbrev pub command_of : List (List ℕ) → Option Command
 command_of [] = None
 command_of (name ∷ words) = if bytes_eq name (codes "compile") then compile_of words else if bytes_eq name (codes "render") then render_of words else if bytes_eq name (codes "play") then play_of words else None
 
+-- the name of a file that is borrowed
+abbrev pub name_of : Option (Bor (List ℕ)) → Option (List ℕ)
+name_of None = None
+name_of (Some name) = Some name.now
+
 -- the same command where its words are borrowed
 abbrev pub meaning : Found → Command
 meaning (found.Compile manifest out) = Compile manifest.now out.now
-meaning (found.Render manifest input turns) = Render manifest.now input.now turns
+meaning (found.Render manifest input turns state) = Render manifest.now input.now turns (name_of state)
 meaning (found.Play wasm input steps) = Play wasm.now input.now steps
 
 -- the file that words write, where they write one
 abbrev pub file_written : Option Command → Option (List ℕ)
 file_written None = None
 file_written (Some (Compile manifest out)) = Some out
-file_written (Some (Render manifest input turns)) = None
+file_written (Some (Render manifest input turns state)) = None
 file_written (Some (Play wasm input steps)) = None
 
 -- a command that runs a patch gives its parts no more turns than a word may say
 abbrev pub GivesTurns : Found → Type 0
 GivesTurns (found.Compile manifest out) = Unit {0}
-GivesTurns (found.Render manifest input turns) = turns ≤ most_turns
+GivesTurns (found.Render manifest input turns state) = turns ≤ most_turns
 GivesTurns (found.Play wasm input steps) = Unit {0}

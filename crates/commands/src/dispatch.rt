@@ -64,9 +64,10 @@ fn carry_out<F: Folder, O: Sink, L: Listener>(
                 manifest,
                 input,
                 turns,
+                state,
             },
         ) => done(
-            render_files(alloc, folder, manifest, input, turns, out, listeners),
+            render_files(alloc, folder, manifest, input, turns, state, out, listeners),
             Work::Heard,
         ),
         Some(Command::Play { wasm, input, steps }) => done(
@@ -82,7 +83,7 @@ fn carry_out<F: Folder, O: Sink, L: Listener>(
 
 /// Carries out the words of a command line, those after the program's name. The files are those of `folder`,
 /// lines go to `out`, and a line on what went wrong goes to `err`. `compile M OUT` puts no line and tells the listeners
-/// nothing. `render M INPUT TURNS` and `play WASM INPUT STEPS` put the lines of a run and have the listeners hear it; with
+/// nothing. `render M INPUT TURNS [STATE]` and `play WASM INPUT STEPS` put the lines of a run and have the listeners hear it; with
 /// `Ok` a line on each listener goes to `err`: docs/COMMANDS.md.
 pub fn run<F: Folder, O: Sink, E: Sink, L: Listener>(
     alloc: Global,

@@ -12,6 +12,7 @@ mod patch;
 mod play;
 mod render;
 mod report;
+mod state;
 mod status;
 mod stop;
 #[cfg(test)]

@@ -7,24 +7,24 @@ ghost use Rattle.cm_io.specs.Seen.{IfTold, OnlyRead};
 ghost use Rattle.input_script.specs.Script.{script_in};
 ghost use Rattle.item_lines.specs.Hearing.{ear};
 ghost use Rattle.item_lines.specs.Telling.{mouth};
-ghost use Rattle.wasm_tree.specs.Section.{ends_of};
 ghost use Rattle.wasm_tree.specs.Valid.{Valid as IsValid};
 ghost use Rattle.commands.specs.declared.status.FileRef.TheVariants.{Input};
 ghost use Rattle.commands.specs.Files.{IsPlayFile};
-ghost use Rattle.commands.specs.Playing.{SpellsValid, HasModule, RefusesModule, NoModule, HasScript, RefusesScript, NoScript, RunIsTold};
-ghost use Rattle.commands.specs.Statuses.{status_of_module, status_of_run};
+ghost use Rattle.commands.specs.Playing.{SpellsValid, HasModule, RefusesModule, NoModule, HasScript, RefusesScript, NoScript};
+ghost use Rattle.commands.specs.Statuses.{status_of_module};
 ghost use Rattle.commands.specs.Steps.{Ends, Stopped, ended};
 ghost use Rattle.commands.specs.Told.{TellsFor};
 ghost use Rattle.commands.specs.Words.{Play};
 
 use crate::files::read_file;
 use crate::status::{FileRef, Status};
-use crate::stop::{Stop, about};
+use crate::stop::{Stop, about, ended_with};
 use cm_base::limits::{MODULE_BYTES, SCRIPT_BYTES};
 use cm_base::{FormFail, HostEnds, Script};
 use cm_io::{Folder, Listener, Sink};
 use input_script::read_script;
-use run_lines::{RunEnd, tell_run};
+use run_lines::tell_run;
+use saved_state::nothing_saved;
 use std::alloc::Global;
 use wasm_reader::read_module;
 use wasm_tree::ModuleFail;
@@ -49,7 +49,9 @@ pub fn play_files<F: Folder, O: Sink, L: Listener>(
 {
     let valid = about(alloc, wasm, read_valid(alloc, folder, wasm))?;
     let script = about(alloc, input, read_input(alloc, folder, input, valid.host()))?;
-    run_module(alloc, valid, &script, steps, out, listeners)
+    let saved = nothing_saved(alloc, valid.host());
+    let end = tell_run(alloc, valid, &saved, &script, steps, out, listeners);
+    ended_with(Status::of_run(end))
 }
 
 /// The valid module that a file holds.
@@ -119,37 +121,5 @@ fn script_of(alloc: Global, bytes: &[u8], host: &HostEnds) -> Result<Script, Sta
         Ok(script) => Ok(script),
         Err(FormFail::Refused(fault)) => Err(Status::InputRefused(fault)),
         Err(FormFail::NoMemory) => Err(Status::NoMemory),
-    }
-}
-
-/// Runs a valid module over a script, and ends the command as the run ends.
-fn run_module<O: Sink, L: Listener>(
-    alloc: Global,
-    valid: Valid,
-    script: &Script,
-    steps: u64,
-    out: &mut O,
-    listeners: &mut Vec<L>,
-) -> Result<(), Stop>
-    requires few { length listeners.old.items < 2 ^ 31 }
-    requires script { IsScriptFor (ends_of valid.section) script.now }
-    ensures { RunIsTold valid.of valid.section script.now steps
-        (record { out = mouth (O.written out.old) (O.faults out.old) (O.refusals out.old); ears = map (λ l. ear (L.heard l) (L.count l) (L.faults l) (L.refusals l)) listeners.old.items })
-        (record { out = mouth (O.written out.new) (O.faults out.new) (O.refusals out.new); ears = map (λ l. ear (L.heard l) (L.count l) (L.faults l) (L.refusals l)) listeners.new.items })
-        (ended result) }
-{
-    end_of_run(tell_run(alloc, valid, script, steps, out, listeners))
-}
-
-/// The end of a command whose run ended so.
-fn end_of_run(end: RunEnd) -> Result<(), Stop>
-    ensures { ended result ≡ status_of_run end }
-{
-    match Status::of_run(end) {
-        Status::Ok => Ok(()),
-        status => Err(Stop {
-            status,
-            about: None,
-        }),
     }
 }

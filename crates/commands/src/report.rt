@@ -26,10 +26,11 @@ fn line_of(alloc: Global, status: &Status, name: &str) -> Result<Option<Vec<u8>>
     Ok(Some(line))
 }
 
-/// The line of a status that speaks of a script, of a module or of its run.
+/// The line of a status that speaks of a state, of a script, of a module or of its run.
 fn run_line(alloc: Global, status: &Status) -> Result<Option<Vec<u8>>, AllocError> {
     let line = match status {
-        Status::InputRefused(fault) => fault_line(alloc, fault)?,
+        Status::StateRefused(fault) => fault_line(alloc, "state", fault)?,
+        Status::InputRefused(fault) => fault_line(alloc, "input", fault)?,
         Status::ModuleRefused(refused) => module_line(alloc, refused)?,
         Status::TurnsSpent(at) => part_line(alloc, "turns spent", *at)?,
         Status::StepsSpent(at) => part_line(alloc, "steps spent", *at)?,
@@ -40,10 +41,10 @@ fn run_line(alloc: Global, status: &Status) -> Result<Option<Vec<u8>>, AllocErro
     Ok(Some(Vec::from_slice(alloc, line.as_bytes())?))
 }
 
-/// `input refused RULE PART INDEX`.
-fn fault_line(alloc: Global, fault: &FormFault) -> Result<String, AllocError> {
+/// `FILE refused RULE PART INDEX`.
+fn fault_line(alloc: Global, file: &str, fault: &FormFault) -> Result<String, AllocError> {
     let (rule, part, index) = (fault.rule, fault.part, fault.index);
-    format!(in alloc; "input refused {rule:?} {part:?} {index}\n")
+    format!(in alloc; "{file} refused {rule:?} {part:?} {index}\n")
 }
 
 /// `module refused RULE OFFSET`.

@@ -1,6 +1,7 @@
 //! What ends a command before its work is done.
 
 ghost use Rattle.std.specs.Prelude.{◌≡◌, ◌⊎◌, Ok, Err, MatchResult};
+ghost use Rattle.commands.specs.Steps.{ended};
 
 use crate::report::told;
 use crate::status::Status;
@@ -49,6 +50,19 @@ impl From<AllocError> for Stop {
 
     fn from(_error: AllocError) -> Stop {
         Stop::from(NoMemory)
+    }
+}
+
+/// The end of a command whose run has this status.
+pub fn ended_with(status: Status) -> Result<(), Stop>
+    ensures { ended result ≡ status }
+{
+    match status {
+        Status::Ok => Ok(()),
+        status => Err(Stop {
+            status,
+            about: None,
+        }),
     }
 }
 

@@ -2,7 +2,7 @@
 
 ghost use Rattle.std.specs.Prelude.{◌≡◌, ◌≤◌, ◌∷◌, map, string_bytes, IfSome};
 ghost use Rattle.std.specs.Option.{option_map};
-ghost use Rattle.commands.specs.Words.{GivesTurns, command_of, command_playing, command_rendering, compile_of, play_of, render_of, meaning, most_steps, most_turns, next_number as the_next, number_behind, number_within};
+ghost use Rattle.commands.specs.Words.{GivesTurns, Render, Play, command_of, command_running, compile_of, last_file, play_of, render_of, meaning, most_steps, most_turns, name_of, next_number as the_next, number_behind, number_within};
 
 use cm_base::limits::{STEPS, TURNS};
 
@@ -24,6 +24,8 @@ pub enum Command<'a> {
         input: &'a str,
         /// How many turns each part of the run is given.
         turns: u64,
+        /// The name of the state file with whose parameters the run begins.
+        state: Option<&'a str>,
     },
     /// Play a module over an input script.
     Play {
@@ -70,7 +72,7 @@ fn read_compile(words: &[String]) -> Option<Command<'_>>
     None
 }
 
-/// The command of these words after `render`: two names that aren't empty, and a number.
+/// The command of these words after `render`: two names that aren't empty, a number, and maybe a third name.
 fn read_render(words: &[String]) -> Option<Command<'_>>
     ensures meant { option_map meaning result ≡ render_of (map string_bytes words.now) }
     ensures turns { IfSome result GivesTurns }
@@ -81,20 +83,38 @@ fn read_render(words: &[String]) -> Option<Command<'_>>
 }
 
 /// The command that renders these files, of the words that follow theirs.
-fn read_turns<'a>(manifest: &'a str, input: &'a str, words: &[String]) -> Option<Command<'a>>
+fn read_turns<'a>(manifest: &'a str, input: &'a str, words: &'a [String]) -> Option<Command<'a>>
     ensures meant { option_map meaning result ≡ render_of (manifest.now ∷ input.now ∷ map string_bytes words.now) }
     ensures turns { IfSome result GivesTurns }
 {
     let (turns, words) = words.split_first()?;
-    if words.is_empty() {
-        return render_command(manifest, input, turns.as_bytes());
+    let state = read_last(words)?;
+    render_command(manifest, input, turns.as_bytes(), state)
+}
+
+/// The name of a file that may stand last.
+fn read_last(words: &[String]) -> Option<Option<&str>>
+    ensures { option_map name_of result ≡ last_file (map string_bytes words.now) }
+{
+    match words.split_first() {
+        Some((name, others)) => {
+            if name.is_empty() || !others.is_empty() {
+                return None;
+            }
+            Some(Some(name.as_str()))
+        }
+        None => Some(None),
     }
-    None
 }
 
 /// The command that renders these files, where the names aren't empty and the last word is a number of turns.
-fn render_command<'a>(manifest: &'a str, input: &'a str, turns: &[u8]) -> Option<Command<'a>>
-    ensures meant { option_map meaning result ≡ command_rendering manifest.now input.now turns.now }
+fn render_command<'a>(
+    manifest: &'a str,
+    input: &'a str,
+    turns: &[u8],
+    state: Option<&'a str>,
+) -> Option<Command<'a>>
+    ensures meant { option_map meaning result ≡ command_running (λ number. Render manifest.now input.now number (name_of state.entry)) most_turns manifest.now input.now turns.now }
     ensures turns { IfSome result GivesTurns }
 {
     if manifest.is_empty() || input.is_empty() {
@@ -105,6 +125,7 @@ fn render_command<'a>(manifest: &'a str, input: &'a str, turns: &[u8]) -> Option
         manifest,
         input,
         turns,
+        state,
     })
 }
 
@@ -132,7 +153,7 @@ fn read_steps<'a>(wasm: &'a str, input: &'a str, words: &[String]) -> Option<Com
 
 /// The command that plays these files, where the names aren't empty and the last word is a number of reductions.
 fn play_command<'a>(wasm: &'a str, input: &'a str, steps: &[u8]) -> Option<Command<'a>>
-    ensures meant { option_map meaning result ≡ command_playing wasm.now input.now steps.now }
+    ensures meant { option_map meaning result ≡ command_running (Play wasm.now input.now) most_steps wasm.now input.now steps.now }
     ensures turns { IfSome result GivesTurns }
 {
     if wasm.is_empty() || input.is_empty() {

@@ -13,7 +13,6 @@ use Rattle.item_lines.proofs.Tracing.{told_none, told_first}
 use Rattle.module_player.specs.declared.came.At.{At}
 use Rattle.module_player.specs.declared.came.At.TheVariants as at
 use Rattle.module_player.specs.declared.came.Came.{Came}
-use Rattle.module_player.specs.declared.came.Came.TheVariants as came
 use Rattle.module_player.specs.Coming.{Comes, ComesThrough, ComesSpent, ComesTrapped, ComesHalted, place_of}
 use Rattle.module_player.specs.Playing.{IsPlayed}
 use Rattle.module_player.specs.Telling.{TellsAll, TellsNone, TellsNext, StopsAmong}
@@ -123,22 +122,21 @@ outside_of written faults refusals heard count failed lacked o =
     record { out = mouth (written o.out.now) (faults o.out.now) (refusals o.out.now); ears = map (λ l. ear (heard l) (count l) (failed l) (lacked l)) o.listeners.now.items }
 
 -- the references of an outlet, and how the run of a module over a script is told
-pub record PlayTold {O L : Type 0} (see : Outlet O L → Outside) (of : Checked) (script : Script) (steps : ℕ) (a : Outlet O L) (end : RunEnd) (b : Outlet O L) : Type 0 where
+pub record PlayTold {O L : Type 0} (see : Outlet O L → Outside) (of : Checked) (saved : List Saved) (script : Script) (steps : ℕ) (a : Outlet O L) (end : RunEnd) (b : Outlet O L) : Type 0 where
   pub keeps : Keeps a b
-  pub tells : RunTells (ends_of of.section) (host_run of.of of.section [] script script.frames steps) (see a) (see b) end
+  pub tells : RunTells (ends_of of.section) (host_run of.of of.section saved script script.frames steps) (see a) (see b) end
 
-told_from_start : {O L : Type 0} (see : Outlet O L → Outside) (of : Checked) (script : Script) (steps : ℕ) (a : Outlet O L) (came : Came) (b : Outlet O L) → a.slots.now ≡ of.section.slots →
-    IsPlayed (OutletTells see) of [] script steps a came b → PlayTold see of script steps a (end_by came b.last) b
-told_from_start see of script steps a came b slots played =
-    let told = run_told see (host_stops of.of of.section [] script script.frames steps) a came played.globals played.memory played.current b played.comes in
+told_from_start : {O L : Type 0} (see : Outlet O L → Outside) (of : Checked) (saved : List Saved) (script : Script) (steps : ℕ) (a : Outlet O L) (came : Came) (b : Outlet O L) → a.slots.now ≡ of.section.slots →
+    IsPlayed (OutletTells see) of saved script steps a came b → PlayTold see of saved script steps a (end_by came b.last) b
+told_from_start see of saved script steps a came b slots played =
+    let told = run_told see (host_stops of.of of.section saved script script.frames steps) a came played.globals played.memory played.current b played.comes in
     record {
       keeps = told.keeps;
-      tells = subst (λ (s : List Slot). RunTells (ends_in s) (host_run of.of of.section [] script script.frames steps) (see a) (see b) (end_by came b.last)) slots told.tells;
+      tells = subst (λ (s : List Slot). RunTells (ends_in s) (host_run of.of of.section saved script script.frames steps) (see a) (see b) (end_by came b.last)) slots told.tells;
     }
 
--- a module is played with nothing saved
-pub play_told : {O L : Type 0} (see : Outlet O L → Outside) (of : Checked) (saved : List Saved) (script : Script) (steps : ℕ) (a : Outlet O L) (came : Came) (end : RunEnd) (b : Outlet O L) → saved ≡ [] → end ≡ end_by came b.last →
-    a.slots.now ≡ of.section.slots → IsPlayed (OutletTells see) of saved script steps a came b → PlayTold see of script steps a end b
-play_told see of saved script steps a came end b none is slots played =
-    subst (λ (e : RunEnd). PlayTold see of script steps a e b) (sym is)
-    (told_from_start see of script steps a came b slots (subst (λ (s : List Saved). IsPlayed (OutletTells see) of s script steps a came b) none played))
+-- a module is played
+pub play_told : {O L : Type 0} (see : Outlet O L → Outside) (of : Checked) (saved : List Saved) (script : Script) (steps : ℕ) (a : Outlet O L) (came : Came) (end : RunEnd) (b : Outlet O L) → end ≡ end_by came b.last →
+    a.slots.now ≡ of.section.slots → IsPlayed (OutletTells see) of saved script steps a came b → PlayTold see of saved script steps a end b
+play_told see of saved script steps a came end b is slots played =
+    subst (λ (e : RunEnd). PlayTold see of saved script steps a e b) (sym is) (told_from_start see of saved script steps a came b slots played)

@@ -1,7 +1,7 @@
 // Runs whose items are told.
 
-ghost use Rattle.std.specs.Prelude.{◌≡◌, ◌<◌, ◌^◌, [], length, map};
-ghost use Rattle.cm_base.specs.Scripts.{IsScriptFor};
+ghost use Rattle.std.specs.Prelude.{◌≡◌, ◌<◌, ◌^◌, length, map};
+ghost use Rattle.cm_base.specs.Scripts.{AreSaved, IsScriptFor};
 ghost use Rattle.item_lines.specs.Hearing.{ear};
 ghost use Rattle.item_lines.specs.Telling.{mouth};
 ghost use Rattle.wasm_tree.specs.HostRun.{host_run};
@@ -10,7 +10,7 @@ ghost use Rattle.run_lines.specs.Runs.{RunTells};
 
 use crate::ending::{RunEnd, run_end};
 use crate::outlet::Outlet;
-use cm_base::{Items, Script};
+use cm_base::{SavedList, Script};
 use cm_io::{Listener, Sink};
 use item_lines::Told;
 use module_player::play;
@@ -21,13 +21,15 @@ use wasm_valid::{Slots, Valid};
 fn tell_into<'a, 'b, 'c, O: Sink, L: Listener>(
     alloc: Global,
     valid: Valid,
+    saved: &SavedList,
     script: &Script,
     steps: u64,
     outlet: &mut Outlet<'a, 'b, 'c, O, L>,
 ) -> RunEnd
+    requires saved { AreSaved (ends_of valid.section) saved.now }
     requires script { IsScriptFor (ends_of valid.section) script.now }
     requires slots { outlet.old.slots.now ≡ valid.section.slots }
-    ensures told { RunTells (ends_of valid.section) (host_run valid.of valid.section [] script.now script.now.frames steps)
+    ensures told { RunTells (ends_of valid.section) (host_run valid.of valid.section saved.now script.now script.now.frames steps)
         (record { out = mouth (O.written outlet.old.out.now) (O.faults outlet.old.out.now) (O.refusals outlet.old.out.now); ears = map (λ l. ear (L.heard l) (L.count l) (L.faults l) (L.refusals l)) outlet.old.listeners.now.items })
         (record { out = mouth (O.written outlet.new.out.now) (O.faults outlet.new.out.now) (O.refusals outlet.new.out.now); ears = map (λ l. ear (L.heard l) (L.count l) (L.faults l) (L.refusals l)) outlet.new.listeners.now.items })
         result }
@@ -35,8 +37,7 @@ fn tell_into<'a, 'b, 'c, O: Sink, L: Listener>(
     ensures line { outlet.new.line.ghost_name ≡ outlet.old.line.ghost_name }
     ensures listeners { outlet.new.listeners.ghost_name ≡ outlet.old.listeners.ghost_name }
 {
-    let _lawful = valid.host();
-    match play(alloc, valid, &Items::new(alloc), script, steps, outlet) {
+    match play(alloc, valid, saved, script, steps, outlet) {
         Ok(came) => run_end(came, outlet.last),
         Err(_) => RunEnd::NoMemory,
     }
@@ -46,6 +47,7 @@ fn tell_into<'a, 'b, 'c, O: Sink, L: Listener>(
 fn tell_with<O: Sink, L: Listener>(
     alloc: Global,
     valid: Valid,
+    saved: &SavedList,
     script: &Script,
     steps: u64,
     line: &mut Vec<u8>,
@@ -54,9 +56,10 @@ fn tell_with<O: Sink, L: Listener>(
     listeners: &mut Vec<L>,
 ) -> RunEnd
     requires few { length listeners.old.items < 2 ^ 31 }
+    requires saved { AreSaved (ends_of valid.section) saved.now }
     requires script { IsScriptFor (ends_of valid.section) script.now }
     requires slots { slots.now ≡ valid.section.slots }
-    ensures told { RunTells (ends_of valid.section) (host_run valid.of valid.section [] script.now script.now.frames steps)
+    ensures told { RunTells (ends_of valid.section) (host_run valid.of valid.section saved.now script.now script.now.frames steps)
         (record { out = mouth (O.written out.old) (O.faults out.old) (O.refusals out.old); ears = map (λ l. ear (L.heard l) (L.count l) (L.faults l) (L.refusals l)) listeners.old.items })
         (record { out = mouth (O.written out.new) (O.faults out.new) (O.refusals out.new); ears = map (λ l. ear (L.heard l) (L.count l) (L.faults l) (L.refusals l)) listeners.new.items })
         result }
@@ -68,25 +71,27 @@ fn tell_with<O: Sink, L: Listener>(
         listeners,
         last: Told::Heard,
     };
-    tell_into(alloc, valid, script, steps, &mut outlet)
+    tell_into(alloc, valid, saved, script, steps, &mut outlet)
 }
 
-/// Plays a valid module over a script, with at most `steps` reductions for each part. Its parameters begin with the values of
-/// their ranges. The line of each item of the trace is put to `out` as one piece, and then the listeners hear the item, until
+/// Plays a valid module over a script, with at most `steps` reductions for each part. Its parameters begin with the values that
+/// are saved under their names, or else with those of their ranges. The line of each item of the trace is put to `out` as one piece, and then the listeners hear the item, until
 /// the run ends, a part doesn't, a line isn't put or a listener doesn't take the item. The memory of the run is taken before
 /// its first call.
 pub fn tell_run<O: Sink, L: Listener>(
     alloc: Global,
     valid: Valid,
+    saved: &SavedList,
     script: &Script,
     steps: u64,
     out: &mut O,
     listeners: &mut Vec<L>,
 ) -> RunEnd
     requires few { length listeners.old.items < 2 ^ 31 }
+    requires saved { AreSaved (ends_of valid.section) saved.now }
     requires script { IsScriptFor (ends_of valid.section) script.now }
     // The items of the module's run are told as they come, all of them or up to one that isn't heard, and it ends by them.
-    ensures told { RunTells (ends_of valid.section) (host_run valid.of valid.section [] script.now script.now.frames steps)
+    ensures told { RunTells (ends_of valid.section) (host_run valid.of valid.section saved.now script.now script.now.frames steps)
         (record { out = mouth (O.written out.old) (O.faults out.old) (O.refusals out.old); ears = map (λ l. ear (L.heard l) (L.count l) (L.faults l) (L.refusals l)) listeners.old.items })
         (record { out = mouth (O.written out.new) (O.faults out.new) (O.refusals out.new); ears = map (λ l. ear (L.heard l) (L.count l) (L.faults l) (L.refusals l)) listeners.new.items })
         result }
@@ -97,6 +102,6 @@ pub fn tell_run<O: Sink, L: Listener>(
     };
     let mut line = Vec::new(alloc);
     tell_with(
-        alloc, valid, script, steps, &mut line, &slots, out, listeners,
+        alloc, valid, saved, script, steps, &mut line, &slots, out, listeners,
     )
 }

@@ -23,11 +23,16 @@ fn each_status_has_one_line(rt: HostRuntime) {
         part: FormPart::Events,
         index: 1024,
     };
+    let unsaved = FormFault {
+        rule: FormRule::Scalar,
+        part: FormPart::Parameters,
+        index: 3,
+    };
     let broken = ModuleRefused {
         offset: 33_554_432,
         rule: ModuleRule::CallCycle,
     };
-    let rows: [(Status, &str); 14] = [
+    let rows: [(Status, &str); 15] = [
         (Status::Ok, ""),
         (Status::Usage, "usage\n"),
         (
@@ -49,6 +54,10 @@ fn each_status_has_one_line(rt: HostRuntime) {
         (
             Status::WriteFault(Target::File),
             "write fault a\\x0ab\\x09\\x1f\\x7f ~\u{e9}\n",
+        ),
+        (
+            Status::StateRefused(unsaved),
+            "state refused Scalar Parameters 3\n",
         ),
         (
             Status::InputRefused(fault),

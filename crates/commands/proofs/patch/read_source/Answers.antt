@@ -1,4 +1,4 @@
-use Rattle.commands.proofs.PatchLemmas.{named_stop}
+use Rattle.commands.proofs.StepLemmas.{named_stop}
 use Rattle.commands.proofs.patch.read_source.Goals as goal
 
 pub returns-clause-stopped : goal.returns-clause-stopped

@@ -11,7 +11,7 @@ use Rattle.commands.specs.Files.{IsPlayFile}
 use Rattle.commands.specs.Playing.{HasModule, HasScript}
 use Rattle.commands.specs.Words.{Play}
 use Rattle.commands.proofs.EndLemmas.{stop_ends}
-use Rattle.commands.proofs.PlayLemmas.{script_later, stopped_before, run_ends, run_tells}
+use Rattle.commands.proofs.PlayLemmas.{script_later, stopped_before, run_is_told, run_ends, run_tells}
 use Rattle.commands.proofs.StepLemmas.{about_err}
 use Rattle.commands.proofs.play.play_files.Goals as goal
 
@@ -48,7 +48,8 @@ returns-clause-ends g c =
     let found = rw c.host.ensures.same at c.read_input.ensures.found in
     let script = IfOk-at_ok (λ (s : Script). IfSome (g.F.Folder.seen c.read_valid.new.folder).holds (λ files. HasScript files c.args.input.now (ends_of c.in_ok-valid.valid.section) s)) c.in_ok-script.ensures found in
     let has_script = subst (λ (h : Option Files). IfSome h (λ files. HasScript files c.args.input.now (ends_of c.in_ok-valid.valid.section) c.in_ok-script.script)) c.read_valid.ensures.only_read.files script in
-    run_ends _ _ c.args.wasm.now c.args.input.now c.args.steps c.in_ok-valid.valid.of c.in_ok-valid.valid.section c.in_ok-script.script _ _ _ (c.read_input.ensures.only_read.files ∙ c.read_valid.ensures.only_read.files) has has_script c.run_module.ensures
+    run_ends _ _ c.args.wasm.now c.args.input.now c.args.steps c.in_ok-valid.valid.of c.in_ok-valid.valid.section c.in_ok-script.script _ _ _ (c.read_input.ensures.only_read.files ∙ c.read_valid.ensures.only_read.files) has has_script
+    (run_is_told _ _ _ _ c.args.steps _ _ c.tell_run-end.result _ c.nothing_saved-saved.ensures.none c.tell_run-end.ensures.told (c.ended_with.ensures ∙ c.of_run.ensures))
 
 pub returns-clause-told : goal.returns-clause-told
 returns-clause-told g c =
@@ -57,4 +58,5 @@ returns-clause-told g c =
     let found = rw c.host.ensures.same at c.read_input.ensures.found in
     let script = IfOk-at_ok (λ (s : Script). IfSome (g.F.Folder.seen c.read_valid.new.folder).holds (λ files. HasScript files c.args.input.now (ends_of c.in_ok-valid.valid.section) s)) c.in_ok-script.ensures found in
     let has_script = subst (λ (h : Option Files). IfSome h (λ files. HasScript files c.args.input.now (ends_of c.in_ok-valid.valid.section) c.in_ok-script.script)) c.read_valid.ensures.only_read.files script in
-    inr (run_tells _ c.args.wasm.now c.args.input.now c.args.steps c.in_ok-valid.valid.of c.in_ok-valid.valid.section c.in_ok-script.script _ _ _ valid has has_script c.run_module.ensures)
+    inr (run_tells _ c.args.wasm.now c.args.input.now c.args.steps c.in_ok-valid.valid.of c.in_ok-valid.valid.section c.in_ok-script.script _ _ _ valid has has_script
+    (run_is_told _ _ _ _ c.args.steps _ _ c.tell_run-end.result _ c.nothing_saved-saved.ensures.none c.tell_run-end.ensures.told (c.ended_with.ensures ∙ c.of_run.ensures)))

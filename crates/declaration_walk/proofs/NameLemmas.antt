@@ -8,9 +8,9 @@ use Rattle.cm_tree.specs.declared.decl.Param.{Param}
 use Rattle.cm_meaning.specs.Declared.{Home, Named, Declared}
 use Rattle.cm_meaning.specs.Scopes.{Around, declare, declared, param_name, param_names, scoped, with_local}
 use Rattle.cm_meaning.specs.Sites.{Site}
-use Rattle.scope_walk.specs.Steps.{Step, Introduces, found_at, Walks}
-use Rattle.scope_walk.proofs.StepLemmas.{ok-map, walks-none, walks-then}
-use Rattle.scope_walk.proofs.LocalLemmas.{walks-after, walks-declare}
+use Rattle.scope_walk.specs.Steps.{Step, Introduces, Walks}
+use Rattle.scope_walk.proofs.StepLemmas.{ok-map, reads-none, reads-walks, walks-after, walks-then}
+use Rattle.scope_walk.proofs.LocalLemmas.{walks-declare}
 use Rattle.declaration_walk.specs.Declares.{in_front, filled, Declares}
 
 -- ---- scopes
@@ -46,8 +46,7 @@ pub declares-at : (a b : List Step) (xs ys : Home → List Declared) → ((h : H
 declares-at a b xs ys same h = walks-after a b (λ r. []) (λ r. filled r (xs r.home)) (λ r. filled r (ys r.home)) (λ r. ap (filled r) (same r.home)) h
 
 pub declares-none : (a : List Step) (xs : Home → List Declared) → ((h : Home) → xs h ≡ []) → Declares a a xs
-unfolding found_at
-declares-none a xs none = walks-after a a (λ r. []) (λ r. r) (λ r. filled r (xs r.home)) (λ r. ap (filled r) (none r.home) ∙ filled-none r) (walks-none a a (λ r. []) refl (λ r. refl))
+declares-none a xs none = walks-after a a (λ r. []) (λ r. r) (λ r. filled r (xs r.home)) (λ r. ap (filled r) (none r.home) ∙ filled-none r) (reads-walks a a (λ r. []) (reads-none a a (λ r. []) refl (λ r. refl)))
 
 pub declares-one : (a b : List Step) (w : Word) (n : Named) (xs : Home → List Declared) → ((h : Home) → xs h ≡ declared h w n ∷ []) → b ≡ a ++ Introduces w n ∷ [] → Declares a b xs
 declares-one a b w n xs is grown = walks-after a b (λ r. []) (λ r. declare r (declared r.home w n)) (λ r. filled r (xs r.home)) (λ r. ap (filled r) (is r.home) ∙ filled-one r (declared r.home w n)) (walks-declare a b w n grown)

@@ -12,34 +12,33 @@ use Rattle.cm_tree.specs.declared.decl.Decl.{Decl}
 use Rattle.cm_tree.specs.declared.decl.Decl.TheVariants as d
 use Rattle.cm_tree.specs.declared.decl.UnitDecl.{UnitDecl}
 use Rattle.cm_tree.specs.declared.file.File.{File}
-use Rattle.cm_meaning.specs.Declared.{Space, Home, Processor, Graph, Declared}
-use Rattle.cm_meaning.specs.Scopes.{Around, around_space, declared, find_in, in_space, in_unit, inside_of, inside_unit, member_names, outward, param_names, patch_names, scoped, space_scopes, unit_names, within}
+use Rattle.cm_meaning.specs.Declared.{Space, Home, Named, Processor, Graph, Declared}
+use Rattle.cm_meaning.specs.Scopes.{Around, around_space, declared, in_space, in_unit, inside_of, inside_unit, member_names, param_names, patch_names, space_scopes, unit_names, within}
 use Rattle.cm_meaning.specs.Sites.{Site}
-use Rattle.cm_meaning.specs.PatchSites.{decl_sites, function_sites, in_unit_sites, patch_sites, shared_sites, unit_sites}
+use Rattle.cm_meaning.specs.PatchSites.{decl_sites, function_sites, patch_sites, shared_sites, unit_sites}
 use Rattle.cm_meaning.specs.SiteEquations.{decl_sites-Namespace}
-use Rattle.scope_walk.specs.Steps.{Step, Stand, Enters, Leaves, EntersUnit, LeavesUnit, EntersSpace, LeavesSpace, outer_of, outside, space_round, step_after, after_steps, found_by, found_at, IsLike, Walks, Reads, Passes}
-use Rattle.scope_walk.proofs.StepLemmas.{after-append, found-append, at-append, ok-map, take-more, walks-then}
-use Rattle.declaration_walk.specs.Declares.{filled, Declares, file_sites}
+use Rattle.scope_walk.specs.Steps.{Step, Stand, EntersUnit, LeavesUnit, EntersSpace, LeavesSpace, entered, outside, step_after, after_steps, sites_by, Walks, Reads, Passes}
+use Rattle.scope_walk.proofs.StepLemmas.{after-append, sites-append, ok-map, reads-walks, take-more, walks-then}
+use Rattle.declaration_walk.specs.Declares.{filled, Declares, file_sites, inner_sites}
 use Rattle.declaration_walk.proofs.NameLemmas.{in_front-new}
-use Rattle.declaration_walk.proofs.PartLemmas.{inside-part}
 
 -- ---- one part after another
 
 pub passes-none : (a : List Step) (s : List Declared → Space → List Site) → ((all : List Declared) (space : Space) → s all space ≡ []) → Passes a a s
-unfolding found_by after_steps found_at
-passes-none a s none = record { more = []; grown = sym (append-nil a); found = λ all space. sym (ap found_at (none all space)); leaves = λ all space. refl }
+unfolding sites_by after_steps
+passes-none a s none = record { more = []; grown = sym (append-nil a); comes = λ all space. sym (none all space); stays = λ all space. refl }
 
 pub passes-then : (a b c : List Step) (s t : List Declared → Space → List Site) → Passes a b s → Passes b c t → Passes a c (λ all space. s all space ++ t all space)
 passes-then a b c s t h k = record {
   more = h.more ++ k.more;
   grown = k.grown ∙ ap (λ z. z ++ k.more) h.grown ∙ append_assoc a h.more k.more;
-  found = λ all space. found-append (outside all space) h.more k.more ∙ ap (λ z. found_by (outside all space) h.more ++ found_by z k.more) (h.leaves all space) ∙ ap (λ z. z ++ found_by (outside all space) k.more) (h.found all space)
-      ∙ ap (λ z. found_at (s all space) ++ z) (k.found all space) ∙ sym (at-append (s all space) (t all space));
-  leaves = λ all space. after-append (outside all space) h.more k.more ∙ ap (λ z. after_steps z k.more) (h.leaves all space) ∙ k.leaves all space;
+  comes = λ all space. sites-append (outside all space) h.more k.more ∙ ap (λ z. sites_by (outside all space) h.more ++ sites_by z k.more) (h.stays all space)
+      ∙ ap (λ z. z ++ sites_by (outside all space) k.more) (h.comes all space) ∙ ap (λ z. s all space ++ z) (k.comes all space);
+  stays = λ all space. after-append (outside all space) h.more k.more ∙ ap (λ z. after_steps z k.more) (h.stays all space) ∙ k.stays all space;
 }
 
 pub passes-at : (a b : List Step) (s t : List Declared → Space → List Site) → ((all : List Declared) (space : Space) → t all space ≡ s all space) → Passes a b s → Passes a b t
-passes-at a b s t same h = record { more = h.more; grown = h.grown; found = λ all space. h.found all space ∙ sym (ap found_at (same all space)); leaves = h.leaves }
+passes-at a b s t same h = record { more = h.more; grown = h.grown; comes = λ all space. h.comes all space ∙ sym (same all space); stays = h.stays }
 
 pub passes-ok : {E : Type 0} (a b : List Step) (s t : List Declared → Space → List Site) (o : Result (Unit {0}) E) → ((all : List Declared) (space : Space) → t all space ≡ s all space) → OnOk o (Passes a b s) → OnOk o (Passes a b t)
 passes-ok a b s t o same h = ok-map o (Passes a b s) (Passes a b t) (passes-at a b s t same) h
@@ -56,46 +55,23 @@ row-next f xs i x a b c within is h k = passes-at a c (λ all space. flat_map (f
 pub row-all : {X : Type 0} (f : List Declared → Space → X → List Site) (xs : List X) (i : ℕ) (a b : List Step) → i ≡ length xs → Passes a b (λ all space. flat_map (f all space) (take i xs)) → Passes a b (λ all space. flat_map (f all space) xs)
 row-all f xs i a b whole h = subst (λ z. Passes a b (λ all space. flat_map (f all space) z)) (ap (λ n. take n xs) whole ∙ take-length xs) h
 
--- ---- in a scope with no names
-
-abbrev bare : List Declared → Space → Stand
-bare all space = record { all = all; scopes = [] ∷ []; home = in_space space }
-
-like-bare : (all : List Declared) (space : Space) → IsLike (around_space all space) (bare all space)
-unfolding outward find_in
-like-bare all space = record { all = refl; finds = λ n. refl; home = refl }
-
-left-bare : (all : List Declared) (home : Home) (scopes : List (List Declared)) (s : Stand) → s.all ≡ all → s.home ≡ home → outer_of s.scopes ≡ scopes → record s { scopes = outer_of s.scopes } ≡ record { all = all; scopes = scopes; home = home }
-left-bare all home scopes s is at outer = ap (λ z. record { all = z; scopes = outer_of s.scopes; home = s.home }) is ∙ ap (λ z. record { all = all; scopes = outer_of s.scopes; home = z }) at
-    ∙ ap (λ z. record { all = all; scopes = z; home = home }) outer
-
-passes-bare : (a b c d : List Step) (s : Around → List Site) → b ≡ a ++ Enters ∷ [] → Reads b c s → d ≡ c ++ Leaves ∷ [] → Passes a d (λ all space. s (around_space all space))
-unfolding found_by after_steps
-passes-bare a b c d s enters h leaves = record {
-  more = Enters ∷ (h.more ++ Leaves ∷ []);
-  grown = leaves ∙ ap (λ z. z ++ Leaves ∷ []) (h.grown ∙ ap (λ z. z ++ h.more) enters) ∙ ap (λ z. z ++ Leaves ∷ []) (append_assoc a (Enters ∷ []) h.more) ∙ append_assoc a (Enters ∷ h.more) (Leaves ∷ []);
-  found = λ all space. found-append (bare all space) h.more (Leaves ∷ []) ∙ append-nil (found_by (bare all space) h.more) ∙ h.found (around_space all space) (bare all space) (like-bare all space);
-  leaves = λ all space. after-append (bare all space) h.more (Leaves ∷ [])
-      ∙ (let like = h.leaves (around_space all space) (bare all space) (like-bare all space) in left-bare all (in_space space) [] (after_steps (bare all space) h.more) like.all like.home (h.outer (bare all space)));
-}
-
-pub bare-part : {E : Type 0} (a b c d : List Step) (s : Around → List Site) (o : Result (Unit {0}) E) → b ≡ a ++ Enters ∷ [] → Reads b c s → OnOk o (d ≡ c ++ Leaves ∷ []) → OnOk o (Passes a d (λ all space. s (around_space all space)))
-bare-part a b c d s o enters h leaves = ok-map o (d ≡ c ++ Leaves ∷ []) (Passes a d (λ all space. s (around_space all space))) (passes-bare a b c d s enters h) leaves
+-- a part that is read in a namespace, in no scope
+pub reads-passes : {E : Type 0} (a b : List Step) (s : Around → List Site) (o : Result (Unit {0}) E) → OnOk o (Reads a b s) → OnOk o (Passes a b (λ all space. s (around_space all space)))
+reads-passes a b s o h = ok-map o (Reads a b s) (Passes a b (λ all space. s (around_space all space)))
+    (λ k. record { more = k.more; grown = k.grown; comes = λ all space. k.comes (outside all space); stays = λ all space. k.stays (outside all space) }) h
 
 -- ---- processors and graphs
 
-abbrev begun : UnitDecl → List Declared → Space → Stand
-begun u all space = record { all = all; scopes = [] ∷ []; home = in_unit space u }
+-- in a processor or a graph, with these names
+abbrev begun : Named → UnitDecl → List Declared → Space → Stand
+begun n u all space = record { all = all; scopes = []; home = in_unit space u; inside = declared (in_space space) u.name n ∷ []; loops = 0 }
 
 -- what is round a processor or a graph before its names are declared
-abbrev round_unit : UnitDecl → List Declared → Space → Around
-round_unit u all space = record (around_space all space) { scopes = [] ∷ space_scopes all space; home = in_unit space u }
+abbrev round_unit : Named → UnitDecl → List Declared → Space → Around
+round_unit n u all space = inside_of (record (around_space all space) { scopes = [] ∷ space_scopes all space; home = in_unit space u }) (declared (in_space space) u.name n)
 
-like-begun : (u : UnitDecl) (all : List Declared) (space : Space) → IsLike (round_unit u all space) (begun u all space)
-like-begun u all space = record { all = refl; finds = λ n. refl; home = refl }
-
-filled-unit : (u : UnitDecl) (all : List Declared) (space : Space) → filled (round_unit u all space) (unit_names space u) ≡ inside_unit (around_space all space) u
-filled-unit u all space = ap (λ z. record (round_unit u all space) { scopes = z }) (in_front-new (unit_names space u) (space_scopes all space))
+filled-unit : (n : Named) (u : UnitDecl) (all : List Declared) (space : Space) → filled (round_unit n u all space) (unit_names space u) ≡ inside_of (inside_unit (around_space all space) u) (declared (in_space space) u.name n)
+filled-unit n u all space = ap (λ z. record (round_unit n u all space) { scopes = z }) (in_front-new (unit_names space u) (space_scopes all space))
 
 unit-names : (u : UnitDecl) (space : Space) → param_names (in_unit space u) 0 u.params ++ flat_map (member_names (in_unit space u)) u.members ≡ unit_names space u
 unfolding unit_names
@@ -104,33 +80,28 @@ unit-names u space = refl
 abbrev names_in : UnitDecl → Home → List Declared
 names_in u m = param_names m 0 u.params ++ flat_map (member_names m) u.members
 
-unit-round : (u : UnitDecl) (all : List Declared) (space : Space) → filled (round_unit u all space) (names_in u (in_unit space u)) ≡ inside_unit (around_space all space) u
-unit-round u all space = ap (filled (round_unit u all space)) (unit-names u space) ∙ filled-unit u all space
+unit-round : (n : Named) (u : UnitDecl) (all : List Declared) (space : Space) → filled (round_unit n u all space) (names_in u (in_unit space u)) ≡ inside_of (inside_unit (around_space all space) u) (declared (in_space space) u.name n)
+unit-round n u all space = ap (filled (round_unit n u all space)) (unit-names u space) ∙ filled-unit n u all space
 
--- the names are declared, and all paths in it are looked up
-abbrev InUnit : List Step → List Step → UnitDecl → (Space → Declared) → Type 0
-InUnit b d u x = Walks b d (λ r. in_unit_sites (inside_of (filled r (names_in u r.home)) (x r.home.space)) u) (λ r. filled r (names_in u r.home))
+-- the names are declared, and all parts of it are read
+abbrev InUnit : List Step → List Step → UnitDecl → Type 0
+InUnit b d u = Walks b d (λ r. inner_sites (filled r (names_in u r.home)) u) (λ r. filled r (names_in u r.home))
 
-left-unit : (u : UnitDecl) (all : List Declared) (space : Space) (s : Stand) → s.all ≡ all → s.home ≡ in_unit space u → outer_of s.scopes ≡ [] → record s { scopes = outer_of s.scopes; home = in_space s.home.space } ≡ outside all space
-left-unit u all space s is at outer = ap (λ z. record { all = z; scopes = outer_of s.scopes; home = in_space s.home.space }) is ∙ ap (λ (z : Home). record { all = all; scopes = outer_of s.scopes; home = in_space z.space }) at
-    ∙ ap (λ z. record { all = all; scopes = z; home = in_space space }) outer
-
-passes-unit : (a b d e : List Step) (u : UnitDecl) (x : Space → Declared) → b ≡ a ++ EntersUnit u ∷ [] → InUnit b d u x → e ≡ d ++ LeavesUnit ∷ [] → Passes a e (λ all space. unit_sites (around_space all space) (x space) u)
-unfolding found_by after_steps
-passes-unit a b d e u x enters h leaves = record {
-  more = EntersUnit u ∷ (h.more ++ LeavesUnit ∷ []);
-  grown = leaves ∙ ap (λ z. z ++ LeavesUnit ∷ []) (h.grown ∙ ap (λ z. z ++ h.more) enters) ∙ ap (λ z. z ++ LeavesUnit ∷ []) (append_assoc a (EntersUnit u ∷ []) h.more) ∙ append_assoc a (EntersUnit u ∷ h.more) (LeavesUnit ∷ []);
-  found = λ all space. found-append (begun u all space) h.more (LeavesUnit ∷ []) ∙ append-nil (found_by (begun u all space) h.more) ∙ h.found (round_unit u all space) (begun u all space) (like-begun u all space)
-      ∙ ap (λ z. found_at (in_unit_sites (inside_of z (x space)) u)) (unit-round u all space);
-  leaves = λ all space. after-append (begun u all space) h.more (LeavesUnit ∷ [])
-      ∙ (let like = h.leaves (round_unit u all space) (begun u all space) (like-begun u all space) in left-unit u all space (after_steps (begun u all space) h.more) like.all like.home (h.outer (begun u all space)));
+passes-unit : (a b d e : List Step) (n : Named) (u : UnitDecl) → b ≡ a ++ EntersUnit n u ∷ [] → InUnit b d u → e ≡ d ++ LeavesUnit ∷ [] → Passes a e (λ all space. unit_sites (around_space all space) (declared (in_space space) u.name n) u)
+unfolding sites_by after_steps
+passes-unit a b d e n u enters h leaves = record {
+  more = EntersUnit n u ∷ (h.more ++ LeavesUnit ∷ []);
+  grown = leaves ∙ ap (λ z. z ++ LeavesUnit ∷ []) (h.grown ∙ ap (λ z. z ++ h.more) enters) ∙ ap (λ z. z ++ LeavesUnit ∷ []) (append_assoc a (EntersUnit n u ∷ []) h.more) ∙ append_assoc a (EntersUnit n u ∷ h.more) (LeavesUnit ∷ []);
+  comes = λ all space. sites-append (entered (begun n u all space) []) h.more (LeavesUnit ∷ []) ∙ append-nil (sites_by (entered (begun n u all space) []) h.more) ∙ h.comes (begun n u all space) []
+      ∙ ap (λ z. inner_sites z u) (unit-round n u all space);
+  stays = λ all space. after-append (entered (begun n u all space) []) h.more (LeavesUnit ∷ []) ∙ ap (λ z. step_after z LeavesUnit) (h.stays (begun n u all space) []);
 }
 
-pub unit-part : {E : Type 0} (a b c d e : List Step) (u : UnitDecl) (o : Result (Unit {0}) E) → b ≡ a ++ EntersUnit u ∷ [] → Declares b c (λ m. param_names m 0 u.params ++ flat_map (member_names m) u.members) → Reads c d (λ r. in_unit_sites r u)
-    → OnOk o (e ≡ d ++ LeavesUnit ∷ []) → OnOk o ((x : Space → Declared) → Passes a e (λ all space. unit_sites (around_space all space) (x space) u))
-unit-part a b c d e u o enters h k leaves = ok-map o (e ≡ d ++ LeavesUnit ∷ []) ((x : Space → Declared) → Passes a e (λ all space. unit_sites (around_space all space) (x space) u))
-    (λ g x. passes-unit a b d e u x enters
-    (walks-then b c d (λ r. []) (λ r. in_unit_sites (inside_of r (x r.home.space)) u) (λ r. filled r (names_in u r.home)) (λ r. r) h (inside-part c d (λ r. in_unit_sites r u) (λ r. x r.home.space) k)) g) leaves
+pub unit-part : {E : Type 0} (a b c d e : List Step) (n : Named) (u : UnitDecl) (o : Result (Unit {0}) E) → b ≡ a ++ EntersUnit n u ∷ [] → Declares b c (λ m. param_names m 0 u.params ++ flat_map (member_names m) u.members) → Reads c d (λ r. inner_sites r u)
+    → OnOk o (e ≡ d ++ LeavesUnit ∷ []) → OnOk o (Passes a e (λ all space. unit_sites (around_space all space) (declared (in_space space) u.name n) u))
+unit-part a b c d e n u o enters h k leaves = ok-map o (e ≡ d ++ LeavesUnit ∷ []) (Passes a e (λ all space. unit_sites (around_space all space) (declared (in_space space) u.name n) u))
+    (passes-unit a b d e n u enters
+    (walks-then b c d (λ r. []) (λ r. inner_sites r u) (λ r. filled r (names_in u r.home)) (λ r. r) h (reads-walks c d (λ r. inner_sites r u) k))) leaves
 
 -- ---- namespaces
 
@@ -152,15 +123,15 @@ unfolding after_steps within
 enter-after [] all space = refl
 enter-after (n ∷ ns) all space = enter-after ns all (n ∷ space)
 
-enter-found : (ns : List (List ℕ)) (all : List Declared) (space : Space) → found_by (outside all space) (map EntersSpace ns) ≡ []
-unfolding found_by
-enter-found [] all space = refl
-enter-found (n ∷ ns) all space = enter-found ns all (n ∷ space)
+enter-sites : (ns : List (List ℕ)) (all : List Declared) (space : Space) → sites_by (outside all space) (map EntersSpace ns) ≡ []
+unfolding sites_by
+enter-sites [] all space = refl
+enter-sites (n ∷ ns) all space = enter-sites ns all (n ∷ space)
 
-leave-found : (ns : List (List ℕ)) (s : Stand) → found_by s (map leave ns) ≡ []
-unfolding found_by
-leave-found [] s = refl
-leave-found (n ∷ ns) s = leave-found ns (step_after s LeavesSpace)
+leave-sites : (ns : List (List ℕ)) (s : Stand) → sites_by s (map leave ns) ≡ []
+unfolding sites_by
+leave-sites [] s = refl
+leave-sites (n ∷ ns) s = leave-sites ns (step_after s LeavesSpace)
 
 leave-last : (ns : List (List ℕ)) → LeavesSpace ∷ map leave ns ≡ map leave ns ++ LeavesSpace ∷ []
 leave-last [] = refl
@@ -181,14 +152,14 @@ passes-within a b c d ns s enters h leaves = record {
   more = map EntersSpace ns ++ (h.more ++ map leave ns);
   grown = leaves ∙ ap (λ z. z ++ map leave ns) (h.grown ∙ ap (λ z. z ++ h.more) enters) ∙ ap (λ z. z ++ map leave ns) (append_assoc a (map EntersSpace ns) h.more)
       ∙ append_assoc a (map EntersSpace ns ++ h.more) (map leave ns) ∙ ap (λ z. a ++ z) (append_assoc (map EntersSpace ns) h.more (map leave ns));
-  found = λ all space. found-append (outside all space) (map EntersSpace ns) (h.more ++ map leave ns)
-      ∙ ap (λ z. z ++ found_by (after_steps (outside all space) (map EntersSpace ns)) (h.more ++ map leave ns)) (enter-found ns all space)
-      ∙ ap (λ z. found_by z (h.more ++ map leave ns)) (enter-after ns all space)
-      ∙ found-append (outside all (within space ns)) h.more (map leave ns)
-      ∙ ap (λ z. z ++ found_by (after_steps (outside all (within space ns)) h.more) (map leave ns)) (h.found all (within space ns))
-      ∙ ap (λ z. found_at (s all (within space ns)) ++ z) (leave-found ns (after_steps (outside all (within space ns)) h.more)) ∙ append-nil (found_at (s all (within space ns)));
-  leaves = λ all space. after-append (outside all space) (map EntersSpace ns) (h.more ++ map leave ns) ∙ ap (λ z. after_steps z (h.more ++ map leave ns)) (enter-after ns all space)
-      ∙ after-append (outside all (within space ns)) h.more (map leave ns) ∙ ap (λ z. after_steps z (map leave ns)) (h.leaves all (within space ns)) ∙ leave-after ns all space;
+  comes = λ all space. sites-append (outside all space) (map EntersSpace ns) (h.more ++ map leave ns)
+      ∙ ap (λ z. z ++ sites_by (after_steps (outside all space) (map EntersSpace ns)) (h.more ++ map leave ns)) (enter-sites ns all space)
+      ∙ ap (λ z. sites_by z (h.more ++ map leave ns)) (enter-after ns all space)
+      ∙ sites-append (outside all (within space ns)) h.more (map leave ns)
+      ∙ ap (λ z. z ++ sites_by (after_steps (outside all (within space ns)) h.more) (map leave ns)) (h.comes all (within space ns))
+      ∙ ap (λ z. s all (within space ns) ++ z) (leave-sites ns (after_steps (outside all (within space ns)) h.more)) ∙ append-nil (s all (within space ns));
+  stays = λ all space. after-append (outside all space) (map EntersSpace ns) (h.more ++ map leave ns) ∙ ap (λ z. after_steps z (h.more ++ map leave ns)) (enter-after ns all space)
+      ∙ after-append (outside all (within space ns)) h.more (map leave ns) ∙ ap (λ z. after_steps z (map leave ns)) (h.stays all (within space ns)) ∙ leave-after ns all space;
 }
 
 pub namespace-part : {E : Type 0} (a b c d : List Step) (ns row last : List (List ℕ)) (s : List Declared → Space → List Site) (o : Result (Unit {0}) E) → row ≡ ns → last ≡ ns → b ≡ a ++ map EntersSpace row → Passes b c s
@@ -214,24 +185,23 @@ function-sites : (all : List Declared) (space : Space) (f : FunctionDecl) → de
 unfolding decl_sites
 function-sites all space f = refl
 
-abbrev pub PassesUnit : List Step → List Step → UnitDecl → Type 0
-PassesUnit a b u = (x : Space → Declared) → Passes a b (λ all space. unit_sites (around_space all space) (x space) u)
+pub processor-part : {E : Type 0} (a b : List Step) (u : UnitDecl) (tree : Decl) (o : Result (Unit {0}) E) → tree ≡ d.Processor u → OnOk o (Passes a b (λ all space. unit_sites (around_space all space) (declared (in_space space) u.name (Processor u)) u))
+    → OnOk o (Passes a b (λ all space. decl_sites all space tree))
+processor-part a b u tree o is h = passes-ok a b (λ all space. unit_sites (around_space all space) (declared (in_space space) u.name (Processor u)) u) (λ all space. decl_sites all space tree) o
+    (λ all space. ap (decl_sites all space) is ∙ processor-sites all space u) h
 
-pub processor-part : {E : Type 0} (a b : List Step) (u : UnitDecl) (tree : Decl) (o : Result (Unit {0}) E) → tree ≡ d.Processor u → OnOk o (PassesUnit a b u) → OnOk o (Passes a b (λ all space. decl_sites all space tree))
-processor-part a b u tree o is h = ok-map o (PassesUnit a b u) (Passes a b (λ all space. decl_sites all space tree))
-    (λ g. passes-at a b (λ all space. unit_sites (around_space all space) (declared (in_space space) u.name (Processor u)) u) (λ all space. decl_sites all space tree)
-    (λ all space. ap (decl_sites all space) is ∙ processor-sites all space u) (g (λ space. declared (in_space space) u.name (Processor u)))) h
+pub graph-part : {E : Type 0} (a b : List Step) (u : UnitDecl) (tree : Decl) (o : Result (Unit {0}) E) → tree ≡ d.Graph u → OnOk o (Passes a b (λ all space. unit_sites (around_space all space) (declared (in_space space) u.name (Graph u)) u))
+    → OnOk o (Passes a b (λ all space. decl_sites all space tree))
+graph-part a b u tree o is h = passes-ok a b (λ all space. unit_sites (around_space all space) (declared (in_space space) u.name (Graph u)) u) (λ all space. decl_sites all space tree) o
+    (λ all space. ap (decl_sites all space) is ∙ graph-sites all space u) h
 
-pub graph-part : {E : Type 0} (a b : List Step) (u : UnitDecl) (tree : Decl) (o : Result (Unit {0}) E) → tree ≡ d.Graph u → OnOk o (PassesUnit a b u) → OnOk o (Passes a b (λ all space. decl_sites all space tree))
-graph-part a b u tree o is h = ok-map o (PassesUnit a b u) (Passes a b (λ all space. decl_sites all space tree))
-    (λ g. passes-at a b (λ all space. unit_sites (around_space all space) (declared (in_space space) u.name (Graph u)) u) (λ all space. decl_sites all space tree)
-    (λ all space. ap (decl_sites all space) is ∙ graph-sites all space u) (g (λ space. declared (in_space space) u.name (Graph u)))) h
+pub shared-decl : {E : Type 0} (a b : List Step) (x : Shared) (tree : Decl) (o : Result (Unit {0}) E) → tree ≡ d.Shared x → OnOk o (Reads a b (λ r. shared_sites r x)) → OnOk o (Passes a b (λ all space. decl_sites all space tree))
+shared-decl a b x tree o is h = passes-ok a b (λ all space. shared_sites (around_space all space) x) (λ all space. decl_sites all space tree) o (λ all space. ap (decl_sites all space) is ∙ shared-sites all space x)
+    (reads-passes a b (λ r. shared_sites r x) o h)
 
-pub shared-decl : {E : Type 0} (a b : List Step) (x : Shared) (tree : Decl) (o : Result (Unit {0}) E) → tree ≡ d.Shared x → OnOk o (Passes a b (λ all space. shared_sites (around_space all space) x)) → OnOk o (Passes a b (λ all space. decl_sites all space tree))
-shared-decl a b x tree o is h = passes-ok a b (λ all space. shared_sites (around_space all space) x) (λ all space. decl_sites all space tree) o (λ all space. ap (decl_sites all space) is ∙ shared-sites all space x) h
-
-pub function-decl : {E : Type 0} (a b : List Step) (f : FunctionDecl) (tree : Decl) (o : Result (Unit {0}) E) → tree ≡ d.Function f → OnOk o (Passes a b (λ all space. function_sites (around_space all space) f)) → OnOk o (Passes a b (λ all space. decl_sites all space tree))
-function-decl a b f tree o is h = passes-ok a b (λ all space. function_sites (around_space all space) f) (λ all space. decl_sites all space tree) o (λ all space. ap (decl_sites all space) is ∙ function-sites all space f) h
+pub function-decl : {E : Type 0} (a b : List Step) (f : FunctionDecl) (tree : Decl) (o : Result (Unit {0}) E) → tree ≡ d.Function f → OnOk o (Reads a b (λ r. function_sites r f)) → OnOk o (Passes a b (λ all space. decl_sites all space tree))
+function-decl a b f tree o is h = passes-ok a b (λ all space. function_sites (around_space all space) f) (λ all space. decl_sites all space tree) o (λ all space. ap (decl_sites all space) is ∙ function-sites all space f)
+    (reads-passes a b (λ r. function_sites r f) o h)
 
 pub namespace-decl : {E : Type 0} (a b : List Step) (p : Place) (path : Path) (decls row : List Decl) (tree : Decl) (o : Result (Unit {0}) E) → tree ≡ d.Namespace p path decls → row ≡ decls
     → OnOk o (Passes a b (λ all space. flat_map (decl_sites all (within space path.names)) row)) → OnOk o (Passes a b (λ all space. decl_sites all space tree))
@@ -240,6 +210,6 @@ namespace-decl a b p path decls row tree o is same h = passes-ok a b (λ all spa
 
 -- ---- patches
 
-pub whole-patch : (a b : List Step) (files : List File) → a ≡ [] → Passes a b (λ all space. flat_map (file_sites all space) files) → found_by (outside (patch_names files) []) b ≡ found_at (patch_sites files)
+pub whole-patch : (a b : List Step) (files : List File) → a ≡ [] → Passes a b (λ all space. flat_map (file_sites all space) files) → sites_by (outside (patch_names files) []) b ≡ patch_sites files
 unfolding patch_sites
-whole-patch a b files none h = ap (found_by (outside (patch_names files) [])) (h.grown ∙ ap (λ z. z ++ h.more) none) ∙ h.found (patch_names files) []
+whole-patch a b files none h = ap (sites_by (outside (patch_names files) [])) (h.grown ∙ ap (λ z. z ++ h.more) none) ∙ h.comes (patch_names files) []

@@ -1,7 +1,6 @@
-//! The walk over a whole patch as a list of the steps of `scope_walk`: `walk_patch` says that going along the steps finds at each
-//! path exactly what `cm_meaning` says is found at that path's site. The names of a processor, a graph or a function are declared
-//! in a scope of their own before its parts are walked, the last one first; constants, types and functions of a namespace stand
-//! in a scope with no names.
+//! The walk over a whole patch as a list of the steps of `scope_walk`: `walk_patch` says that going along the steps comes to exactly
+//! the sites that `cm_meaning` says the patch has. The names of a processor, a graph or a function are declared in a scope of
+//! their own before its parts are walked, the last one first.
 #![tactic(auto)]
 
 mod functions;

@@ -1,12 +1,12 @@
 //! Nodes and connections.
 ghost use Rattle.std.specs.Prelude.{◌++◌, flat_map, OnOk};
-ghost use Rattle.cm_meaning.specs.PatchSites.{link_sites, node_sites, point_sites};
+ghost use Rattle.cm_meaning.specs.PatchSites.{given_all, given_sites, link_sites, node_sites, point_sites, takes};
 ghost use Rattle.cm_meaning.specs.Sites.{base_sites, expr_sites, optional_sites};
-ghost use Rattle.declaration_walk.specs.Declares.{arg_sites};
+ghost use Rattle.declaration_walk.specs.Declares.{arg_sites, value_sites};
 ghost use Rattle.scope_walk.specs.Steps.{Reads};
 
-use cm_tree::{Arg, Base, Expr, Link, Node, Point};
-use scope_walk::{Steps, walk_base, walk_expr, walk_exprs, walk_optional};
+use cm_tree::{Arg, Base, Expr, Link, Node, Path, Point};
+use scope_walk::{Part, Steps, name_alone, walk_base, walk_expr, walk_exprs, walk_optional};
 use std::alloc::AllocError;
 
 fn walk_sized<'a>(
@@ -20,20 +20,43 @@ fn walk_sized<'a>(
     walk_exprs(steps, sizes)
 }
 
-fn walk_arg<'a>(steps: &mut Steps<'a>, arg: &'a Arg) -> Result<(), AllocError>
-    ensures { OnOk result (Reads steps.old steps.new (λ r. arg_sites r arg.now)) }
+// A path alone has no steps here: it is judged as an argument.
+fn walk_given_value<'a>(steps: &mut Steps<'a>, value: &'a Expr) -> Result<(), AllocError>
+    ensures { OnOk result (Reads steps.old steps.new (λ r. value_sites r value.now)) }
 {
-    match arg {
-        Arg::Type(base, sizes) => walk_sized(steps, base, sizes.as_slice()),
-        Arg::Value(value) => walk_expr(steps, value),
+    match name_alone(value) {
+        Some(_) => Ok(()),
+        None => walk_expr(steps, value),
     }
 }
 
-fn walk_args<'a>(steps: &mut Steps<'a>, args: &'a [Arg]) -> Result<(), AllocError>
-    ensures { OnOk result (Reads steps.old steps.new (λ r. flat_map (arg_sites r) args.now)) }
+fn walk_given<'a>(steps: &mut Steps<'a>, arg: &'a Arg) -> Result<(), AllocError>
+    ensures { OnOk result (Reads steps.old steps.new (λ r. given_sites r arg.now)) }
 {
-    for arg in args {
-        walk_arg(steps, arg)?;
+    match arg {
+        Arg::Type(base, sizes) => walk_sized(steps, base, sizes.as_slice()),
+        Arg::Value(value) => walk_given_value(steps, value),
+    }
+}
+
+// An argument of a node of this path, by its position.
+fn walk_arg<'a>(
+    steps: &mut Steps<'a>,
+    path: &'a Path,
+    position: usize,
+    arg: &'a Arg,
+) -> Result<(), AllocError>
+    ensures { OnOk result (Reads steps.old steps.new (λ r. arg_sites path.now position r arg.now)) }
+{
+    steps.meet_given(path, position, arg)?;
+    walk_given(steps, arg)
+}
+
+fn walk_args<'a>(steps: &mut Steps<'a>, path: &'a Path, args: &'a [Arg]) -> Result<(), AllocError>
+    ensures { OnOk result (Reads steps.old steps.new (λ r. given_all r (takes r path.now) args.now)) }
+{
+    for index in 0..args.len() {
+        walk_arg(steps, path, index, &args[index])?;
     }
     Ok(())
 }
@@ -54,8 +77,8 @@ fn walk_counts<'a>(
 pub fn walk_node<'a>(steps: &mut Steps<'a>, node: &'a Node) -> Result<(), AllocError>
     ensures { OnOk result (Reads steps.old steps.new (λ r. node_sites r node.now)) }
 {
-    steps.look(&node.path)?;
-    walk_args(steps, node.args.as_slice())?;
+    steps.meet(Part::DeclaresNode(node))?;
+    walk_args(steps, &node.path, node.args.as_slice())?;
     walk_counts(steps, &node.count, &node.factor)
 }
 
@@ -72,7 +95,7 @@ pub fn walk_nodes<'a>(steps: &mut Steps<'a>, nodes: &'a [Node]) -> Result<(), Al
 fn walk_point<'a>(steps: &mut Steps<'a>, point: &'a Point) -> Result<(), AllocError>
     ensures { OnOk result (Reads steps.old steps.new (λ r. point_sites r point.now)) }
 {
-    steps.look_word(&point.name)?;
+    steps.meet(Part::Joins(point))?;
     walk_optional(steps, &point.index)
 }
 

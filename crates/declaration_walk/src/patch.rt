@@ -1,34 +1,17 @@
 //! Declarations of namespaces, files and patches.
 ghost use Rattle.std.specs.Prelude.{◌≡◌, ℕ, [], ◌++◌, List, flat_map, map, IfOk, OnOk};
-ghost use Rattle.cm_meaning.specs.PatchSites.{decl_sites, function_sites, patch_sites, shared_sites};
-ghost use Rattle.cm_meaning.specs.Scopes.{around_space, patch_names, within};
+ghost use Rattle.cm_meaning.specs.PatchSites.{decl_sites, patch_sites};
+ghost use Rattle.cm_meaning.specs.Scopes.{patch_names, within};
 ghost use Rattle.declaration_walk.specs.Declares.{file_sites};
-ghost use Rattle.scope_walk.specs.Steps.{EntersSpace, LeavesSpace, Passes, found_at, found_by, outside};
+ghost use Rattle.scope_walk.specs.Steps.{EntersSpace, LeavesSpace, Passes, outside, sites_by};
 
 use crate::functions::walk_function;
 use crate::shared::walk_shared;
 use crate::units::walk_unit;
 use cm_base::Name;
-use cm_tree::{Decl, File, Function, Path, Shared};
-use scope_walk::Steps;
+use cm_tree::{Decl, File, Path};
+use scope_walk::{Steps, UnitKind};
 use std::alloc::{AllocError, Global};
-
-// A declaration in a scope of its own, which has no names.
-fn walk_alone<'a>(steps: &mut Steps<'a>, shared: &'a Shared) -> Result<(), AllocError>
-    ensures { OnOk result (Passes steps.old steps.new (λ all space. shared_sites (around_space all space) shared.now)) }
-{
-    steps.enter()?;
-    walk_shared(steps, shared)?;
-    steps.leave()
-}
-
-fn walk_function_alone<'a>(steps: &mut Steps<'a>, function: &'a Function) -> Result<(), AllocError>
-    ensures { OnOk result (Passes steps.old steps.new (λ all space. function_sites (around_space all space) function.now)) }
-{
-    steps.enter()?;
-    walk_function(steps, function)?;
-    steps.leave()
-}
 
 // The namespaces of a path, each in the one before it.
 fn enter_spaces<'a>(steps: &mut Steps<'a>, names: &'a [Name]) -> Result<(), AllocError>
@@ -55,10 +38,10 @@ fn walk_decl<'a>(steps: &mut Steps<'a>, decl: &'a Decl) -> Result<(), AllocError
 {
     match decl {
         Decl::Namespace(_, path, decls) => walk_namespace(steps, path, decls.as_slice()),
-        Decl::Processor(unit) => walk_unit(steps, unit),
-        Decl::Graph(unit) => walk_unit(steps, unit),
-        Decl::Shared(shared) => walk_alone(steps, shared),
-        Decl::Function(function) => walk_function_alone(steps, function),
+        Decl::Processor(unit) => walk_unit(steps, UnitKind::Processor, unit),
+        Decl::Graph(unit) => walk_unit(steps, UnitKind::Graph, unit),
+        Decl::Shared(shared) => walk_shared(steps, shared),
+        Decl::Function(function) => walk_function(steps, function),
     }
 }
 
@@ -101,10 +84,10 @@ fn walk_files<'a>(steps: &mut Steps<'a>, files: &'a [File]) -> Result<(), AllocE
     Ok(())
 }
 
-/// The steps of a whole patch. Going along them from outside of all declarations finds at each path what is found at its site, in
-/// the order of the files and of the text.
+/// The steps of a whole patch. Going along them from outside of all declarations comes to all sites of the patch, in the order of
+/// the files and of the text.
 pub fn walk_patch<'a>(alloc: Global, files: &'a [File]) -> Result<Steps<'a>, AllocError>
-    ensures { IfOk result (λ steps. found_by (outside (patch_names files.now) []) steps ≡ found_at (patch_sites files.now)) }
+    ensures { IfOk result (λ steps. sites_by (outside (patch_names files.now) []) steps ≡ patch_sites files.now) }
 {
     let mut steps = Steps::new(alloc);
     walk_files(&mut steps, files)?;

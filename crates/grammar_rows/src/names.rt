@@ -5,7 +5,7 @@ use cm_base::{Fail, Name};
 use cm_tree::{Decl, File, TokenKind, Tokens, Word};
 use declaration_walk::walk_patch;
 use name_scopes::{Scopes, check_apart, check_unit};
-use scope_walk::Step;
+use scope_walk::{Part, Step};
 use std::alloc::{AllocError, Global};
 
 /// The files of a text: one.
@@ -91,18 +91,44 @@ pub fn words_answer(alloc: Global, bytes: &[u8]) -> Result<String, AllocError> {
     apart_text(alloc, &found)
 }
 
+/// The letter of a place with a rule.
+fn part_letter(part: &Part<'_>) -> char {
+    match part {
+        Part::Reads(_) => 'r',
+        Part::Calls(_, _) => 'c',
+        Part::TakesArgument(_) => 'a',
+        Part::NamesType(_) => 't',
+        Part::Writes(_) => 'w',
+        Part::Assigns(_) => '=',
+        Part::HasFields(_) => 's',
+        Part::Defines(_) => 'f',
+        Part::Handles(_) => 'h',
+        Part::DeclaresNode(_) => 'n',
+        Part::Joins(_) => 'o',
+        Part::Jumps(_) => 'j',
+        Part::Advances(_) => 'v',
+    }
+}
+
 /// The letter of a step.
 fn letter(step: &Step<'_>) -> char {
     match step {
-        Step::Path(_) => 'p',
-        Step::Word(_) => 'w',
+        Step::Meet(part) => part_letter(part),
+        Step::MeetParam(_) | Step::MeetParams(_) => 'p',
+        Step::MeetUnit => 'u',
+        Step::MeetLocal(_, _, _) | Step::MeetCounter(_, _) => 'l',
+        Step::MeetGiven(_, _, _) => 'g',
         Step::Enter => '{',
         Step::Leave => '}',
         Step::Declare(_, _) => 'd',
-        Step::EnterUnit(_) => '[',
+        Step::EnterUnit(_, _) => '[',
         Step::LeaveUnit => ']',
         Step::EnterSpace(_) => '<',
         Step::LeaveSpace => '>',
+        Step::EnterLoop => '(',
+        Step::LeaveLoop => ')',
+        Step::EnterText(_, _) => ':',
+        Step::LeaveText => ';',
     }
 }
 

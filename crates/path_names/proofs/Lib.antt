@@ -1,4 +1,5 @@
 pub mod NumberLemmas
+pub mod FoundLemmas
 pub mod StandLemmas
 pub mod RisingLemmas
 pub mod PatchLemmas

@@ -1,14 +1,19 @@
 -- Where a walk stands after a step.
-use Rattle.std.specs.Prelude.{◌≡◌, refl, ℕ, zero, suc, ◌+◌, ◌<◌, List, [], ◌∷◌, ◌++◌, length, map, Option, Some, None, option_map, option_and_then, slice_get, slice_index_or, take}
+use Rattle.std.specs.Prelude.{◌≡◌, refl, ℕ, zero, suc, ◌+◌, ◌<◌, List, [], ◌∷◌, ◌++◌, length, map, Option, Some, None, option_map, option_and_then, slice_get, slice_index_or, take, Result, OnOk}
 use Rattle.std.specs.Option.{option_or, option_copied}
 use Rattle.std.proofs.Common.{ap, sym, ◌∙◌, subst, arith, get_or}
 use Rattle.std.proofs.lemmas.List.{append-nil, append_assoc, map-append}
 use Rattle.std.proofs.lemmas.Option.{slice_get_within, get_or_from_slice_get}
+use Rattle.cm_tree.specs.declared.expr.Base.{Base}
+use Rattle.cm_tree.specs.declared.expr.Expr.{Expr}
+use Rattle.cm_tree.specs.declared.expr.Expr.TheVariants as e
 use Rattle.cm_tree.specs.declared.path.Path.{Path}
 use Rattle.cm_tree.specs.declared.path.Word.{Word}
+use Rattle.cm_tree.specs.declared.type_expr.Arg.{Arg}
+use Rattle.cm_tree.specs.declared.type_expr.Arg.TheVariants as g
 use Rattle.cm_meaning.specs.Declared.{Space, Declared}
 use Rattle.cm_meaning.specs.Scopes.{declared, find, find_inner, find_names, onward, outward, space_scopes, with_local}
-use Rattle.cm_meaning.specs.Sites.{path_of_word}
+use Rattle.cm_meaning.specs.Sites.{GivesNode, Part, TakesAny, looked_up, path_of_word}
 use Rattle.name_scopes.specs.Numbers.{added, number_in}
 use Rattle.name_scopes.specs.Members.{IsLonger, IsNumberOf, Known, names_of}
 use Rattle.name_scopes.specs.Openings.{inner, outer_space}
@@ -16,18 +21,22 @@ use Rattle.name_scopes.specs.Stacks.{Visible, with_entry}
 use Rattle.name_scopes.specs.declared.table.Entry.{Entry}
 use Rattle.scope_walk.specs.declared.steps.Declaration.{Declaration}
 use Rattle.scope_walk.specs.declared.steps.Declaration.TheVariants as d
-use Rattle.scope_walk.specs.Meant.{named_as, step_as}
+use Rattle.scope_walk.specs.Bodies.{alone}
+use Rattle.scope_walk.specs.Meant.{named_as, part_as, step_as}
+use Rattle.scope_walk.specs.declared.steps.Part.{Part as Role}
 use Rattle.scope_walk.specs.declared.steps.Step.{Step as Taken}
-use Rattle.scope_walk.proofs.StepLemmas.{after-append, found-append, take-more}
+use Rattle.scope_walk.proofs.StepLemmas.{after-append, ok-map, take-more}
 use Rattle.std.proofs.Math.Seq.{take-length}
-use Rattle.scope_walk.specs.Steps.{Enters, EntersSpace, EntersUnit, Found, Introduces, Leaves, LeavesSpace, LeavesUnit, Looks, Stand, Step, round, visible, after_steps, found_by, outside, space_round, step_after, step_found}
+use Rattle.scope_walk.specs.Steps.{Enters, EntersLoop, EntersSpace, EntersText, EntersUnit, Introduces, Leaves, LeavesLoop, LeavesSpace, LeavesText, LeavesUnit, Meets, MeetsCounter, MeetsGiven, MeetsLocal, MeetsParams, MeetsUnit, Stand, Step, round, visible, after_steps, outside, sites_by, space_round, step_after}
+use Rattle.path_names.specs.Found.{Found, found_at, found_by, found_of, step_found}
+use Rattle.path_names.proofs.FoundLemmas.{found-append, found-sites}
 use Rattle.path_names.specs.declared.id.DeclId.{DeclId}
 use Rattle.path_names.specs.declared.id.DeclId.TheVariants as i
 use Rattle.path_names.specs.declared.id.Use.{Use}
 use Rattle.path_names.specs.declared.local.Local.{Local}
 use Rattle.path_names.specs.declared.walk.Walk.{Walk}
 use Rattle.path_names.specs.Ids.{StandsFor, declared_as, declared_by, local_in, placed, step_declared, use_as}
-use Rattle.path_names.specs.Walking.{AreLocals, AreScopes, HoldNoNames, IsAt, IsEntry, IsLocal, IsScope, Takes, TakesAll}
+use Rattle.path_names.specs.Walking.{AreLocals, AreScopes, HoldNoNames, IsAt, IsEntry, IsLocal, IsScope, Looks, Takes, TakesAll}
 use Rattle.path_names.proofs.NumberLemmas.{number-more}
 
 -- ---- what is found
@@ -214,23 +223,96 @@ pub quiet : (w : Walk) (s : Stand) (xs : List Declared) (found : List Found) →
 quiet w s xs found h = subst (λ z. IsAt w s z (found ++ [])) (sym (append-nil xs)) (subst (λ z. IsAt w s xs z) (sym (append-nil found)) h)
 
 pub looks : (w : Walk) (u : Use) (uses : List Use) (q : Path) → uses ≡ w.uses ++ u ∷ [] → u.place ≡ q.place
-    → ((s : Stand) (xs : List Declared) (found : List Found) → IsAt w s xs found → StandsFor s.all xs u.id (find (round s) q)) → Takes w (record w { uses = uses }) (Looks q)
+    → ((s : Stand) (xs : List Declared) (found : List Found) → IsAt w s xs found → StandsFor s.all xs u.id (find (round s) q)) → Looks w (record w { uses = uses }) q
 looks w u uses q grown place is = record {
-  at = λ s xs found h. let e = is s xs found h in
-      subst (λ z. IsAt (record w { uses = uses }) s z (found ++ (q, find (round s) q) ∷ [])) (sym (append-nil xs)) (record {
-        all = h.all;
-        space = h.space;
-        unit = h.unit;
-        scopes = h.scopes;
+  at = λ s xs found h. let e = is s xs found h in record {
+    all = h.all;
+    space = h.space;
+    unit = h.unit;
+    scopes = h.scopes;
+    locals = h.locals;
+    plain = h.plain;
+    uses = ap (map (use_as s.all xs)) grown ∙ map-append (use_as s.all xs) w.uses (u ∷ [])
+        ∙ ap (λ z. z ++ use_as s.all xs u ∷ []) h.uses
+        ∙ ap (λ z. map placed found ++ (z, option_map (declared_as s.all xs) u.id) ∷ []) place
+        ∙ ap (λ z. map placed found ++ (q.place, z) ∷ []) e
+        ∙ sym (map-append placed found ((q, find (round s) q) ∷ []));
+  };
+}
+
+-- a step that looks nothing up, declares nothing and changes no scope
+pub record IsQuiet (a : Step) : Type 0 where
+  pub found : (s : Stand) → step_found s a ≡ []
+  pub declared : (s : Stand) → step_declared s a ≡ []
+  pub all : (s : Stand) → (step_after s a).all ≡ s.all
+  pub scopes : (s : Stand) → (step_after s a).scopes ≡ s.scopes
+  pub home : (s : Stand) → (step_after s a).home ≡ s.home
+
+pub passes : (w : Walk) (step : Taken) (a : Step) → step_as step ≡ a → IsQuiet a → Takes w w (step_as step)
+passes w step a is q = subst (Takes w w) (sym is) (record {
+  at = λ s xs found h. subst (λ z. IsAt w (step_after s a) z (found ++ step_found s a)) (sym (ap (λ z. xs ++ z) (q.declared s) ∙ append-nil xs))
+      (subst (λ z. IsAt w (step_after s a) xs z) (sym (ap (λ z. found ++ z) (q.found s) ∙ append-nil found)) (record {
+        all = h.all ∙ sym (q.all s);
+        space = h.space ∙ ap (λ z. Some z.space) (sym (q.home s));
+        unit = h.unit ∙ ap (λ z. z.unit) (sym (q.home s));
+        scopes = subst (AreScopes w.names xs w.table.scopes) (sym (q.scopes s)) h.scopes;
         locals = h.locals;
         plain = h.plain;
-        uses = ap (map (use_as s.all xs)) grown ∙ map-append (use_as s.all xs) w.uses (u ∷ [])
-            ∙ ap (λ z. z ++ use_as s.all xs u ∷ []) h.uses
-            ∙ ap (λ z. map placed found ++ (z, option_map (declared_as s.all xs) u.id) ∷ []) place
-            ∙ ap (λ z. map placed found ++ (q.place, z) ∷ []) e
-            ∙ sym (map-append placed found ((q, find (round s) q) ∷ []));
-      });
+        uses = subst (λ z. map (use_as z xs) w.uses ≡ map placed found) (sym (q.all s)) h.uses;
+      }));
+})
+
+-- a site whose path is looked up
+meets : (a b : Walk) (p : Part) (q : Path) → looked_up p ≡ Some q → Looks a b q → Takes a b (Meets p)
+meets a b p q is h = record {
+  at = λ s xs found here. subst (λ z. IsAt b s z (found ++ found_of (round s) (looked_up p))) (sym (append-nil xs)) (subst (λ o. IsAt b s xs (found ++ found_of (round s) o)) (sym is) (h.at s xs found here));
 }
+
+pub meets-path : {E : Type 0} (a b : Walk) (part : Role) (p : Part) (q : Path) (o : Result (Unit {0}) E) → part_as part ≡ p → looked_up p ≡ Some q → OnOk o (Looks a b q) → OnOk o (Takes a b (Meets (part_as part)))
+meets-path a b part p q o same is h = ok-map o (Looks a b q) (Takes a b (Meets (part_as part))) (λ k. subst (λ z. Takes a b (Meets z)) (sym same) (meets a b p q is k)) h
+
+-- a site with no path
+pub meets-none : (w : Walk) (part : Role) (p : Part) → part_as part ≡ p → looked_up p ≡ None → Takes w w (Meets (part_as part))
+meets-none w part p same none = record {
+  at = λ s xs found h. subst (λ z. IsAt w s z (found ++ found_of (round s) (looked_up (part_as part)))) (sym (append-nil xs))
+      (subst (λ o. IsAt w s xs (found ++ found_of (round s) o)) (sym (ap looked_up same ∙ none)) (subst (IsAt w s xs) (sym (append-nil found)) h));
+}
+
+-- an argument of a node
+given : (path : Path) (k : ℕ) (a : Arg) (o : Option Path) → looked_up (GivesNode TakesAny a) ≡ o → (s : Stand) → step_found s (MeetsGiven path k a) ≡ found_of (round s) o
+given path k a o is s = ap (found_of (round s)) is
+
+alone-up : (x : Expr) → looked_up (GivesNode TakesAny (g.Value x)) ≡ alone x
+alone-up (e.Name q) = refl
+alone-up (e.Number p v w) = refl
+alone-up (e.Truth p v) = refl
+alone-up (e.Call' q h args) = refl
+alone-up (e.Construct' b h sizes i args) = refl
+alone-up (e.Paren' p h x) = refl
+alone-up (e.Field' p h x w) = refl
+alone-up (e.Index' p h x i y) = refl
+alone-up (e.Unary' p o h x) = refl
+alone-up (e.Binary' p o h x i y) = refl
+alone-up (e.Choice' p h x i y j z) = refl
+
+given-quiet : (w : Walk) (path : Path) (k : ℕ) (a : Arg) → looked_up (GivesNode TakesAny a) ≡ None → Takes w w (MeetsGiven path k a)
+given-quiet w path k a none = record {
+  at = λ s xs found h. subst (λ z. IsAt w s z (found ++ step_found s (MeetsGiven path k a))) (sym (append-nil xs))
+      (subst (λ z. IsAt w s xs (found ++ z)) (sym (given path k a None none s)) (subst (IsAt w s xs) (sym (append-nil found)) h));
+}
+
+pub given-type : (w : Walk) (path : Path) (k : ℕ) (b : Base) (sizes : List Expr) (a : Arg) → a ≡ g.Type b sizes → Takes w w (MeetsGiven path k a)
+given-type w path k b sizes a is = given-quiet w path k a (ap (λ z. looked_up (GivesNode TakesAny z)) is)
+
+pub given-none : (w : Walk) (path : Path) (k : ℕ) (x : Expr) (a : Arg) → a ≡ g.Value x → alone x ≡ None → Takes w w (MeetsGiven path k a)
+given-none w path k x a is none = given-quiet w path k a (ap (λ z. looked_up (GivesNode TakesAny z)) is ∙ alone-up x ∙ none)
+
+pub given-path : {E : Type 0} (w b : Walk) (path : Path) (k : ℕ) (x : Expr) (a : Arg) (q : Path) (o : Result (Unit {0}) E) → a ≡ g.Value x → alone x ≡ Some q → OnOk o (Looks w b q) → OnOk o (Takes w b (MeetsGiven path k a))
+given-path w b path k x a q o is found look = ok-map o (Looks w b q) (Takes w b (MeetsGiven path k a))
+    (λ h. record {
+      at = λ s xs here k'. subst (λ z. IsAt b s z (here ++ step_found s (MeetsGiven path k a))) (sym (append-nil xs))
+          (subst (λ z. IsAt b s xs (here ++ z)) (sym (given path k a (Some q) (ap (λ z. looked_up (GivesNode TakesAny z)) is ∙ alone-up x ∙ found) s)) (h.at s xs here k'));
+    }) look
 
 pub enters-space : (w : Walk) (known : Known) (space : ℕ) (text name : List ℕ) → names_of known ≡ names_of w.known → IsLonger w.known.spaces known.spaces
     → slice_get known.spaces space ≡ Some (inner w.known.spaces w.space text) → text ≡ name → Takes w (record w { known = known; space = space; unit = None }) (EntersSpace name)
@@ -356,21 +438,30 @@ locals-in spaces (l ∷ locals) (x ∷ xs) h =
 pub record IsEnd (known : Known) (w : Walk) (steps : List Step) : Type 0 where
   pub members : names_of w.known ≡ names_of known
   pub locals : map (local_in w.known.spaces) w.locals ≡ declared_by (outside (names_of known) []) steps
-  pub uses : map (use_as (names_of w.known) (map (local_in w.known.spaces) w.locals)) w.uses ≡ map placed (found_by (outside (names_of known) []) steps)
+  pub uses : map (use_as (names_of w.known) (map (local_in w.known.spaces) w.locals)) w.uses ≡ map placed (found_at (sites_by (outside (names_of known) []) steps))
 
 all-stays : (s : Stand) (steps : List Step) → (after_steps s steps).all ≡ s.all
 unfolding after_steps
 all-stays s [] = refl
 all-stays s (a ∷ steps) = all-stays (step_after s a) steps ∙ one a where
   one : (a : Step) → (step_after s a).all ≡ s.all
-  one (Looks q) = refl
+  one (Meets p) = refl
+  one (MeetsParams params) = refl
+  one MeetsUnit = refl
+  one (MeetsLocal k w n) = refl
+  one (MeetsCounter w ty) = refl
+  one (MeetsGiven q k a) = refl
   one Enters = refl
   one Leaves = refl
   one (Introduces w n) = refl
-  one (EntersUnit u) = refl
+  one (EntersUnit n u) = refl
   one LeavesUnit = refl
   one (EntersSpace n) = refl
   one LeavesSpace = refl
+  one EntersLoop = refl
+  one LeavesLoop = refl
+  one (EntersText w n) = refl
+  one LeavesText = refl
 
 pub walk-end : (known : Known) (a b : Walk) (steps rest : List Step) → IsAt a (outside (names_of known) []) [] [] → TakesAll a b steps → steps ≡ rest → IsEnd known b rest
 walk-end known a b steps rest start h is =
@@ -381,5 +472,6 @@ walk-end known a b steps rest start h is =
     subst (IsEnd known b) is (record {
       members = m;
       locals = l;
-      uses = ap (λ z. map (use_as (names_of b.known) z) b.uses) l ∙ ap (λ z. map (use_as z (declared_by s steps)) b.uses) e.all ∙ e.uses;
+      uses = ap (λ z. map (use_as (names_of b.known) z) b.uses) l ∙ ap (λ z. map (use_as z (declared_by s steps)) b.uses) e.all ∙ e.uses
+          ∙ ap (map placed) (sym (found-sites s steps));
     })

@@ -6,7 +6,8 @@ use Rattle.cm_base.specs.declared.place.Place.{Place}
 use Rattle.cm_meaning.specs.Declared.{Space, Declared}
 use Rattle.cm_meaning.specs.Scopes.{declared}
 use Rattle.scope_walk.specs.Meant.{named_as}
-use Rattle.scope_walk.specs.Steps.{Found, Introduces, Stand, Step, step_after}
+use Rattle.scope_walk.specs.Steps.{Introduces, Stand, Step, step_after}
+use Rattle.path_names.specs.Found.{Found}
 use Rattle.path_names.specs.declared.id.DeclId.{DeclId}
 use Rattle.path_names.specs.declared.id.DeclId.TheVariants as i
 use Rattle.path_names.specs.declared.id.Use.{Use}

@@ -1,3 +1,4 @@
+pub mod Found
 pub mod Ids
 pub mod Walking
 pub mod Rising

@@ -2,12 +2,14 @@
 use Rattle.std.specs.Prelude.{◌≡◌, ℕ, ◌<◌, List, [], ◌∷◌, ◌++◌, length, map, Some, None, slice_get}
 use Rattle.std.specs.Option.{option_copied}
 use Rattle.cm_meaning.specs.Declared.{Space, Declared}
-use Rattle.cm_meaning.specs.Scopes.{declared, find_inner}
+use Rattle.cm_meaning.specs.Scopes.{declared, find, find_inner}
 use Rattle.name_scopes.specs.Members.{names_of}
 use Rattle.name_scopes.specs.Numbers.{number_in}
 use Rattle.name_scopes.specs.declared.table.Entry.{Entry}
 use Rattle.scope_walk.specs.Meant.{named_as}
-use Rattle.scope_walk.specs.Steps.{Found, Stand, Step, after_steps, found_by, step_after, step_found}
+use Rattle.cm_tree.specs.declared.path.Path.{Path}
+use Rattle.scope_walk.specs.Steps.{Stand, Step, after_steps, round, step_after}
+use Rattle.path_names.specs.Found.{Found, found_by, step_found}
 use Rattle.path_names.specs.declared.local.Local.{Local}
 use Rattle.path_names.specs.declared.walk.Walk.{Walk}
 use Rattle.path_names.specs.Ids.{declared_by, placed, step_declared, use_as}
@@ -55,6 +57,10 @@ pub record IsAt (w : Walk) (s : Stand) (xs : List Declared) (found : List Found)
   pub locals : AreLocals w.known.spaces w.locals xs
   pub plain : HoldNoNames xs
   pub uses : map (use_as s.all xs) w.uses ≡ map placed found
+
+-- a path is looked up where the walk stands
+pub record Looks (old new : Walk) (path : Path) : Type 0 where
+  pub at : (s : Stand) (xs : List Declared) (found : List Found) → IsAt old s xs found → IsAt new s xs (found ++ (path, find (round s) path) ∷ [])
 
 -- a step is taken, wherever the walk stands
 pub record Takes (old new : Walk) (step : Step) : Type 0 where

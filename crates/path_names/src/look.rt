@@ -2,7 +2,8 @@ ghost use Rattle.std.specs.Prelude.{◌≡◌, ◌<◌, ◌++◌, List, ℕ, Opt
 ghost use Rattle.cm_meaning.specs.Declared.{Declared};
 ghost use Rattle.cm_meaning.specs.Scopes.{find, find_inner, onward, outward, space_scopes};
 ghost use Rattle.name_scopes.specs.Members.{IsNumberOf, names_of};
-ghost use Rattle.scope_walk.specs.Steps.{Found, Stand, round};
+ghost use Rattle.scope_walk.specs.Steps.{Stand, round};
+ghost use Rattle.path_names.specs.Found.{Found};
 ghost use Rattle.path_names.specs.Ids.{StandsFor};
 ghost use Rattle.path_names.specs.Walking.{AreScopes, HoldNoNames, IsAt, IsReady};
 

@@ -1,7 +1,7 @@
 ghost use Rattle.std.specs.Prelude.{◌≡◌, map, IfOk};
 ghost use Rattle.cm_meaning.specs.PatchSites.{patch_sites};
 ghost use Rattle.cm_meaning.specs.Scopes.{patch_names};
-ghost use Rattle.scope_walk.specs.Steps.{found_at};
+ghost use Rattle.path_names.specs.Found.{found_at};
 ghost use Rattle.path_names.specs.Ids.{placed, use_as};
 
 use crate::path_names::PathNames;

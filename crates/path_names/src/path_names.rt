@@ -1,7 +1,8 @@
 ghost use Rattle.std.specs.Prelude.{◌≡◌, [], map, IfOk, OnOk};
 ghost use Rattle.name_scopes.specs.Members.{names_of};
 ghost use Rattle.scope_walk.specs.Meant.{step_as};
-ghost use Rattle.scope_walk.specs.Steps.{found_by, outside};
+ghost use Rattle.scope_walk.specs.Steps.{outside, sites_by};
+ghost use Rattle.path_names.specs.Found.{found_at};
 ghost use Rattle.path_names.specs.Ids.{declared_by, placed, use_as};
 ghost use Rattle.path_names.specs.Walking.{IsAt, IsReady, TakesAll};
 
@@ -70,7 +71,7 @@ fn follow<'a>(alloc: Global, walk: &mut Walk<'a>, steps: &[Step<'a>]) -> Result<
 
 impl<'a> PathNames<'a> {
     /// What the paths on a walk stand for, which begins in the whole patch with these declarations of namespaces: at each path
-    /// what going along the steps finds there.
+    /// what is found at its site on the way.
     pub fn find_all(
         alloc: Global,
         members: Members<'a>,
@@ -78,7 +79,7 @@ impl<'a> PathNames<'a> {
     ) -> Result<PathNames<'a>, AllocError>
         ensures members { IfOk result (λ t. t.members ≡ names_of members.entry) }
         ensures locals { IfOk result (λ t. t.locals ≡ declared_by (outside (names_of members.entry) []) steps.now) }
-        ensures uses { IfOk result (λ t. map (use_as t.members t.locals) t.uses ≡ map placed (found_by (outside (names_of members.entry) []) steps.now)) }
+        ensures uses { IfOk result (λ t. map (use_as t.members t.locals) t.uses ≡ map placed (found_at (sites_by (outside (names_of members.entry) []) steps.now))) }
     {
         let mut walk = start(alloc, members)?;
         follow(alloc, &mut walk, steps.as_slice())?;

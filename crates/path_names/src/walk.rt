@@ -3,17 +3,17 @@ ghost use Rattle.cm_meaning.specs.Declared.{Space};
 ghost use Rattle.cm_meaning.specs.Sites.{path_of_word};
 ghost use Rattle.name_scopes.specs.Members.{names_of};
 ghost use Rattle.name_scopes.specs.Numbers.{added, number_in};
-ghost use Rattle.scope_walk.specs.Meant.{named_as, step_as};
-ghost use Rattle.scope_walk.specs.Steps.{Enters, EntersSpace, EntersUnit, Introduces, Leaves, LeavesSpace, LeavesUnit, Looks, space_round};
-ghost use Rattle.path_names.specs.Walking.{IsReady, Takes};
+ghost use Rattle.scope_walk.specs.Meant.{named_as, part_as, step_as, unit_as};
+ghost use Rattle.scope_walk.specs.Steps.{Enters, EntersSpace, EntersUnit, Introduces, Leaves, LeavesSpace, LeavesUnit, Meets, MeetsGiven, space_round};
+ghost use Rattle.path_names.specs.Walking.{IsReady, Looks, Takes};
 
 use crate::id::Use;
 use crate::local::Local;
 use crate::look::{find_first, find_path};
 use cm_base::{Items, Name};
-use cm_tree::{Path, UnitDecl, Word};
+use cm_tree::{Arg, Path, UnitDecl, Word};
 use name_scopes::{Members, Names, Table};
-use scope_walk::{Declaration, Step};
+use scope_walk::{Declaration, Part, Step, UnitKind, name_alone};
 use std::alloc::{AllocError, Global};
 
 /// A walk over a patch: the declarations of namespaces, and the scopes, the namespace and the processor or graph round the place
@@ -67,7 +67,7 @@ impl<'a> Walk<'a> {
     fn look(&mut self, path: &'a Path) -> Result<(), AllocError>
         requires { IsReady self.old }
         ensures ready { OnOk result (IsReady self.new) }
-        ensures takes { OnOk result (Takes self.old self.new (Looks path.now)) }
+        ensures looks { OnOk result (Looks self.old self.new path.now) }
     {
         let id = find_path(self, path);
         self.uses.push(Use {
@@ -79,13 +79,55 @@ impl<'a> Walk<'a> {
     fn look_word(&mut self, word: &'a Word) -> Result<(), AllocError>
         requires { IsReady self.old }
         ensures ready { OnOk result (IsReady self.new) }
-        ensures takes { OnOk result (Takes self.old self.new (Looks (path_of_word word.now))) }
+        ensures looks { OnOk result (Looks self.old self.new (path_of_word word.now)) }
     {
         let id = find_first(self, word.text.as_str());
         self.uses.push(Use {
             place: word.place,
             id,
         })
+    }
+
+    fn meet(&mut self, part: Part<'a>) -> Result<(), AllocError>
+        requires { IsReady self.old }
+        ensures ready { OnOk result (IsReady self.new) }
+        ensures takes { OnOk result (Takes self.old self.new (Meets (part_as part.entry))) }
+    {
+        match part {
+            Part::Reads(path) => self.look(path),
+            Part::Calls(path, _) => self.look(path),
+            Part::TakesArgument(_) => Ok(()),
+            Part::NamesType(path) => self.look(path),
+            Part::Writes(word) => self.look_word(word),
+            Part::Assigns(word) => self.look_word(word),
+            Part::HasFields(_) => Ok(()),
+            Part::Defines(_) => Ok(()),
+            Part::Handles(word) => self.look_word(word),
+            Part::DeclaresNode(node) => self.look(&node.path),
+            Part::Joins(point) => self.look_word(&point.name),
+            Part::Jumps(_) => Ok(()),
+            Part::Advances(_) => Ok(()),
+        }
+    }
+
+    // An argument of a node of this path, by its position: a path alone is looked up.
+    fn meet_given(
+        &mut self,
+        path: &'a Path,
+        position: usize,
+        arg: &'a Arg,
+    ) -> Result<(), AllocError>
+        requires { IsReady self.old }
+        ensures ready { OnOk result (IsReady self.new) }
+        ensures takes { OnOk result (Takes self.old self.new (MeetsGiven path.now position arg.now)) }
+    {
+        match arg {
+            Arg::Type(_, _) => Ok(()),
+            Arg::Value(value) => match name_alone(value) {
+                None => Ok(()),
+                Some(path) => self.look(path),
+            },
+        }
     }
 
     fn enter(&mut self) -> Result<(), AllocError>
@@ -124,10 +166,10 @@ impl<'a> Walk<'a> {
         })
     }
 
-    fn enter_unit(&mut self, unit: &'a UnitDecl) -> Result<(), AllocError>
+    fn enter_unit(&mut self, kind: UnitKind, unit: &'a UnitDecl) -> Result<(), AllocError>
         requires { IsReady self.old }
         ensures ready { OnOk result (IsReady self.new) }
-        ensures takes { OnOk result (Takes self.old self.new (EntersUnit unit.now)) }
+        ensures takes { OnOk result (Takes self.old self.new (EntersUnit (unit_as kind unit.now) unit.now)) }
     {
         self.table.enter()?;
         self.unit = Some(unit);
@@ -169,15 +211,20 @@ impl<'a> Walk<'a> {
         ensures takes { OnOk result (Takes self.old self.new (step_as step.entry)) }
     {
         match step {
-            Step::Path(path) => self.look(path),
-            Step::Word(word) => self.look_word(word),
+            Step::Meet(part) => self.meet(part),
+            Step::MeetParam(_) => Ok(()),
+            Step::MeetParams(_) => Ok(()),
+            Step::MeetUnit => Ok(()),
+            Step::MeetLocal(_, _, _) => Ok(()),
+            Step::MeetCounter(_, _) => Ok(()),
+            Step::MeetGiven(path, position, arg) => self.meet_given(path, position, arg),
             Step::Enter => self.enter(),
             Step::Leave => {
                 self.leave();
                 Ok(())
             }
             Step::Declare(word, declaration) => self.declare(alloc, word, declaration),
-            Step::EnterUnit(unit) => self.enter_unit(unit),
+            Step::EnterUnit(kind, unit) => self.enter_unit(kind, unit),
             Step::LeaveUnit => {
                 self.leave_unit();
                 Ok(())
@@ -187,6 +234,10 @@ impl<'a> Walk<'a> {
                 self.leave_space();
                 Ok(())
             }
+            Step::EnterLoop => Ok(()),
+            Step::LeaveLoop => Ok(()),
+            Step::EnterText(_, _) => Ok(()),
+            Step::LeaveText => Ok(()),
         }
     }
 }

@@ -1,9 +1,11 @@
-ghost use Rattle.std.specs.Prelude.{flat_map, OnOk};
-ghost use Rattle.cm_meaning.specs.Sites.{base_sites, expr_sites, optional_sites, type_sites};
+ghost use Rattle.std.specs.Prelude.{◌≡◌, ◌∷◌, flat_map, OnOk};
+ghost use Rattle.std.specs.Option.{option_copied};
+ghost use Rattle.cm_meaning.specs.Sites.{Calls, arguments_sites, base_sites, expr_sites, optional_sites, site, type_sites};
+ghost use Rattle.scope_walk.specs.Bodies.{alone, argument_sites};
 ghost use Rattle.scope_walk.specs.Steps.{Reads};
 
-use crate::steps::Steps;
-use cm_tree::{Base, Expr, TypeExpr};
+use crate::steps::{Part, Steps};
+use cm_tree::{Base, Expr, Path, TypeExpr};
 use std::alloc::AllocError;
 
 /// The steps of an expression.
@@ -14,15 +16,12 @@ pub fn walk_expr<'a>(steps: &mut Steps<'a>, tree: &'a Expr) -> Result<(), AllocE
     match tree {
         Expr::Number(_, _, _) => Ok(()),
         Expr::Truth(_, _) => Ok(()),
-        Expr::Name(path) => steps.look(path),
-        Expr::Call(path, args) => {
-            steps.look(path)?;
-            walk_exprs(steps, args.as_slice())
-        }
+        Expr::Name(path) => steps.meet(Part::Reads(path)),
+        Expr::Call(path, args) => walk_call(steps, path, args.as_slice()),
         Expr::Construct(base, sizes, args) => {
             walk_base(steps, base)?;
             walk_exprs(steps, sizes.as_slice())?;
-            walk_exprs(steps, args.as_slice())
+            walk_arguments(steps, args.as_slice())
         }
         Expr::Paren(_, a) => walk_expr(steps, a.get()),
         Expr::Field(_, a, _) => walk_expr(steps, a.get()),
@@ -41,6 +40,38 @@ pub fn walk_expr<'a>(steps: &mut Steps<'a>, tree: &'a Expr) -> Result<(), AllocE
             walk_expr(steps, b.get())
         }
     }
+}
+
+/// The steps of a call, or of a value of a named type.
+#[cycle(expr)]
+pub fn walk_call<'a>(
+    steps: &mut Steps<'a>,
+    path: &'a Path,
+    args: &'a [Expr],
+) -> Result<(), AllocError>
+    ensures { OnOk result (Reads steps.old steps.new (λ r. site r (Calls path.now args.now) ∷ arguments_sites r args.now)) }
+{
+    steps.meet(Part::Calls(path, args))?;
+    walk_arguments(steps, args)
+}
+
+#[cycle(expr)]
+fn walk_argument<'a>(steps: &mut Steps<'a>, tree: &'a Expr) -> Result<(), AllocError>
+    ensures { OnOk result (Reads steps.old steps.new (λ r. argument_sites r tree.now)) }
+{
+    steps.meet(Part::TakesArgument(tree))?;
+    walk_expr(steps, tree)
+}
+
+// The steps of the arguments of a call or of what makes a value.
+#[cycle(expr)]
+fn walk_arguments<'a>(steps: &mut Steps<'a>, trees: &'a [Expr]) -> Result<(), AllocError>
+    ensures { OnOk result (Reads steps.old steps.new (λ r. arguments_sites r trees.now)) }
+{
+    for tree in trees {
+        walk_argument(steps, tree)?;
+    }
+    Ok(())
 }
 
 /// The steps of expressions one after the other.
@@ -69,6 +100,16 @@ pub fn walk_base<'a>(steps: &mut Steps<'a>, base: &'a Base) -> Result<(), AllocE
     }
 }
 
+/// The path that an expression is, if it is no more.
+pub fn name_alone<'a>(tree: &'a Expr) -> Option<&'a Path>
+    ensures { option_copied result ≡ alone tree.now }
+{
+    match tree {
+        Expr::Name(path) => Some(path),
+        _ => None,
+    }
+}
+
 /// The steps of an expression that may be absent.
 pub fn walk_optional<'a>(steps: &mut Steps<'a>, tree: &'a Option<Expr>) -> Result<(), AllocError>
     ensures { OnOk result (Reads steps.old steps.new (λ r. optional_sites r tree.now)) }
@@ -89,7 +130,7 @@ pub fn walk_type<'a>(steps: &mut Steps<'a>, tree: &'a TypeExpr) -> Result<(), Al
             walk_exprs(steps, sizes.as_slice())
         }
         TypeExpr::Named(path, sizes) => {
-            steps.look(path)?;
+            steps.meet(Part::NamesType(path))?;
             walk_exprs(steps, sizes.as_slice())
         }
     }

@@ -3,8 +3,8 @@ ghost use Rattle.cm_meaning.specs.BodySites.{after_local, init_sites, local_site
 ghost use Rattle.cm_meaning.specs.Scopes.{declare_all, inferred_local, local_constant, typed_local};
 ghost use Rattle.scope_walk.specs.Steps.{Reads, Walks};
 
-use crate::exprs::{walk_expr, walk_exprs, walk_optional, walk_type};
-use crate::steps::{Declaration, Steps};
+use crate::exprs::{walk_call, walk_expr, walk_optional, walk_type};
+use crate::steps::{Declaration, Part, Steps};
 use cm_tree::{Init, Local, Simple, Step, Target, TypeExpr, Var};
 use std::alloc::AllocError;
 
@@ -29,7 +29,7 @@ fn walk_steps<'a>(steps: &mut Steps<'a>, parts: &'a [Step]) -> Result<(), AllocE
 fn walk_target<'a>(steps: &mut Steps<'a>, target: &'a Target) -> Result<(), AllocError>
     ensures { OnOk result (Reads steps.old steps.new (λ r. target_sites r target.now)) }
 {
-    steps.look_word(&target.name)?;
+    steps.meet(Part::Assigns(&target.name))?;
     walk_steps(steps, target.steps.as_slice())
 }
 
@@ -44,10 +44,7 @@ pub fn walk_simple<'a>(steps: &mut Steps<'a>, simple: &'a Simple) -> Result<(), 
         }
         Simple::After(target, _) => walk_target(steps, target),
         Simple::Before(_, _, target) => walk_target(steps, target),
-        Simple::Call(path, args) => {
-            steps.look(path)?;
-            walk_exprs(steps, args.as_slice())
-        }
+        Simple::Call(path, args) => walk_call(steps, path, args.as_slice()),
     }
 }
 
@@ -55,8 +52,10 @@ fn walk_constants<'a>(steps: &mut Steps<'a>, inits: &'a [Init]) -> Result<(), Al
     ensures { OnOk result (Walks steps.old steps.new (λ r. init_sites local_constant r inits.now) (λ r. declare_all r (map (local_constant r.home) inits.now))) }
 {
     for init in inits {
+        let local = Declaration::LocalConstant(&init.value);
+        steps.meet_local(0, &init.name, local)?;
         walk_expr(steps, &init.value)?;
-        steps.declare(&init.name, Declaration::LocalConstant(&init.value))?;
+        steps.declare(&init.name, local)?;
     }
     Ok(())
 }
@@ -65,8 +64,10 @@ fn walk_inferred<'a>(steps: &mut Steps<'a>, inits: &'a [Init]) -> Result<(), All
     ensures { OnOk result (Walks steps.old steps.new (λ r. init_sites inferred_local r inits.now) (λ r. declare_all r (map (inferred_local r.home) inits.now))) }
 {
     for init in inits {
+        let local = Declaration::InferredLocal(&init.value);
+        steps.meet_local(0, &init.name, local)?;
         walk_expr(steps, &init.value)?;
-        steps.declare(&init.name, Declaration::InferredLocal(&init.value))?;
+        steps.declare(&init.name, local)?;
     }
     Ok(())
 }
@@ -74,9 +75,12 @@ fn walk_inferred<'a>(steps: &mut Steps<'a>, inits: &'a [Init]) -> Result<(), All
 fn walk_vars<'a>(steps: &mut Steps<'a>, ty: &'a TypeExpr, vars: &'a [Var]) -> Result<(), AllocError>
     ensures { OnOk result (Walks steps.old steps.new (λ r. var_sites r ty.now r vars.now) (λ r. declare_all r (map (typed_local r.home ty.now) vars.now))) }
 {
-    for var in vars {
+    for index in 0..vars.len() {
+        let var = &vars[index];
+        let local = Declaration::TypedLocal(ty, var.value.as_ref());
+        steps.meet_local(index, &var.name, local)?;
         walk_optional(steps, &var.value)?;
-        steps.declare(&var.name, Declaration::TypedLocal(ty, var.value.as_ref()))?;
+        steps.declare(&var.name, local)?;
     }
     Ok(())
 }

@@ -1,12 +1,12 @@
-ghost use Rattle.std.specs.Prelude.{[], ◌∷◌, OnOk};
-ghost use Rattle.cm_meaning.specs.BodySites.{after, after_start, block_sites, counter, next_sites, start_sites, stmt_sites, stmts_sites};
-ghost use Rattle.cm_meaning.specs.Scopes.{scoped};
+ghost use Rattle.std.specs.Prelude.{[], OnOk};
+ghost use Rattle.cm_meaning.specs.BodySites.{after, after_start, block_sites, next_sites, start_sites, stmt_sites, stmts_sites};
+ghost use Rattle.cm_meaning.specs.Scopes.{looped, scoped};
 ghost use Rattle.scope_walk.specs.Steps.{after_all, Reads, Walks};
-ghost use Rattle.scope_walk.specs.Bodies.{for_sites};
+ghost use Rattle.scope_walk.specs.Bodies.{counted_sites, for_sites};
 
 use crate::exprs::{walk_expr, walk_optional, walk_type};
 use crate::simple::{walk_local, walk_simple};
-use crate::steps::{Declaration, Steps};
+use crate::steps::{Declaration, Part, Steps};
 use cm_tree::{Block, Expr, Simple, Start, Stmt, TypeExpr, Word};
 use std::alloc::AllocError;
 
@@ -60,23 +60,23 @@ pub fn walk_stmt<'a>(steps: &mut Steps<'a>, tree: &'a Stmt) -> Result<(), AllocE
         }
         Stmt::Loop(_, count, a) => {
             walk_optional(steps, count)?;
-            walk_arm(steps, a.get())
+            walk_body(steps, a.get())
         }
         Stmt::While(_, test, a) => {
             walk_expr(steps, test)?;
-            walk_arm(steps, a.get())
+            walk_body(steps, a.get())
         }
         Stmt::ForType(_, ty, word, a) => {
             walk_type(steps, ty)?;
             walk_counted(steps, ty, word, a.get())
         }
         Stmt::For(_, start, test, next, a) => walk_for(steps, start, test, next, a.get()),
-        Stmt::Break(_) => Ok(()),
-        Stmt::Continue(_) => Ok(()),
+        Stmt::Break(place) => steps.meet(Part::Jumps(*place)),
+        Stmt::Continue(place) => steps.meet(Part::Jumps(*place)),
         Stmt::Return(_, value) => walk_optional(steps, value),
-        Stmt::Advance(_) => Ok(()),
+        Stmt::Advance(place) => steps.meet(Part::Advances(*place)),
         Stmt::Write(word, value) => {
-            steps.look_word(word)?;
+            steps.meet(Part::Writes(word))?;
             walk_expr(steps, value)
         }
     }
@@ -102,7 +102,7 @@ fn walk_stmts<'a>(steps: &mut Steps<'a>, all: &'a [Stmt]) -> Result<(), AllocErr
     Ok(())
 }
 
-// An arm of an `if` or a body of a loop, in a scope of its own.
+// An arm of an `if`, in a scope of its own.
 #[cycle(stmt)]
 fn walk_arm<'a>(steps: &mut Steps<'a>, tree: &'a Stmt) -> Result<(), AllocError>
     ensures { OnOk result (Reads steps.old steps.new (λ r. stmt_sites (scoped r []) tree.now)) }
@@ -112,7 +112,17 @@ fn walk_arm<'a>(steps: &mut Steps<'a>, tree: &'a Stmt) -> Result<(), AllocError>
     steps.leave()
 }
 
-// The body of `for (wrap<4> i)` in the scope of its variable.
+// A body of a loop, in a scope of its own.
+#[cycle(stmt)]
+fn walk_body<'a>(steps: &mut Steps<'a>, tree: &'a Stmt) -> Result<(), AllocError>
+    ensures { OnOk result (Reads steps.old steps.new (λ r. stmt_sites (scoped (looped r) []) tree.now)) }
+{
+    steps.enter_loop()?;
+    walk_arm(steps, tree)?;
+    steps.leave_loop()
+}
+
+// The variable and the body of `for (wrap<4> i)`, in a scope of their own.
 #[cycle(stmt)]
 fn walk_counted<'a>(
     steps: &mut Steps<'a>,
@@ -120,11 +130,12 @@ fn walk_counted<'a>(
     word: &'a Word,
     tree: &'a Stmt,
 ) -> Result<(), AllocError>
-    ensures { OnOk result (Reads steps.old steps.new (λ r. stmt_sites (scoped (scoped r (counter r ty.now word.now ∷ [])) []) tree.now)) }
+    ensures { OnOk result (Reads steps.old steps.new (λ r. counted_sites r ty.now word.now tree.now)) }
 {
     steps.enter()?;
+    steps.meet_counter(word, ty)?;
     steps.declare(word, Declaration::Counter(ty))?;
-    walk_arm(steps, tree)?;
+    walk_body(steps, tree)?;
     steps.leave()
 }
 
@@ -142,7 +153,7 @@ fn walk_for<'a>(
     walk_start(steps, start)?;
     walk_optional(steps, test)?;
     walk_next(steps, next)?;
-    walk_arm(steps, tree)?;
+    walk_body(steps, tree)?;
     steps.leave()
 }
 

@@ -2,5 +2,4 @@ use Rattle.declaration_walk.proofs.PartLemmas.{function-part}
 use Rattle.declaration_walk.proofs.functions.walk_function.Goals as goal
 
 pub returns : goal.returns
-returns c = function-part c.args.steps.now c.enter.new.self c.declare_parameters.new.steps c.walk_in_function.new.steps c.leave.new.self c.args.function.now c.as_slice.result.now c.leave.result c.as_slice.ensures
-    c.in_ok-enter.ensures c.in_ok-declare_parameters.ensures c.in_ok-walk_in_function.ensures c.leave.ensures
+returns c = function-part c.args.steps.now c.enter_text.new.self c.walk_function_scope.new.steps c.leave_text.new.self c.args.function.now c.leave_text.result c.in_ok-enter_text.ensures c.in_ok-walk_function_scope.ensures c.leave_text.ensures

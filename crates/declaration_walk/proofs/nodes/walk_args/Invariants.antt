@@ -1,7 +1,7 @@
-use Rattle.declaration_walk.specs.Declares.{arg_sites}
+use Rattle.cm_meaning.specs.PatchSites.{given_all, takes}
 use Rattle.scope_walk.specs.Steps.{Reads}
-use Rattle.std.proofs.Common.{flat_map, take}
+use Rattle.std.proofs.Common.{take}
 use Rattle.declaration_walk.proofs.nodes.walk_args.Given as goal
 
-abbrev pub invariant-loop-arg : goal.invariant-loop-arg
-invariant-loop-arg l = Reads l.fn.steps l.steps (λ r. flat_map (arg_sites r) (take l.arg-index l.args))
+abbrev pub invariant-loop-index : goal.invariant-loop-index
+invariant-loop-index l = Reads l.fn.steps l.steps (λ r. given_all r (takes r l.path) (take l.index l.args))

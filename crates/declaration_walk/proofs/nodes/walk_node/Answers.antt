@@ -1,13 +1,11 @@
-use Rattle.cm_meaning.specs.PatchSites.{node_sites}
-use Rattle.cm_meaning.specs.Sites.{optional_sites}
-use Rattle.declaration_walk.proofs.PartLemmas.{node-found}
-use Rattle.declaration_walk.specs.Declares.{arg_sites}
+use Rattle.cm_meaning.specs.PatchSites.{given_all, node_sites, takes}
+use Rattle.cm_meaning.specs.Sites.{DeclaresNode, optional_sites, site}
 use Rattle.scope_walk.proofs.ScopeLemmas.{then-part}
-use Rattle.scope_walk.proofs.StepLemmas.{look-then}
-use Rattle.std.proofs.Common.{flat_map, ◌++◌}
+use Rattle.scope_walk.proofs.StepLemmas.{meet-then}
+use Rattle.std.proofs.Common.{ap, sym, ◌++◌, ◌∷◌}
 use Rattle.declaration_walk.proofs.nodes.walk_node.Goals as goal
 
 pub returns : goal.returns
-returns c = look-then c.args.steps.now c.look.new.self c.walk_counts.new.steps c.args.node.now.path (λ r. flat_map (arg_sites r) c.as_slice.result.now ++ (optional_sites r c.args.node.now.count ++ optional_sites r c.args.node.now.factor)) (λ r. node_sites r c.args.node.now) c.walk_counts.result
-    (λ r. node-found r c.args.node.now c.as_slice.result.now c.as_slice.ensures) c.in_ok-look.ensures
-    (then-part c.look.new.self c.walk_args.new.steps c.walk_counts.new.steps (λ r. flat_map (arg_sites r) c.as_slice.result.now) (λ r. optional_sites r c.args.node.now.count ++ optional_sites r c.args.node.now.factor) c.walk_counts.result c.in_ok-walk_args.ensures c.walk_counts.ensures)
+returns c = meet-then c.args.steps.now c.meet.new.self c.walk_counts.new.steps (DeclaresNode c.args.node.now) (λ r. given_all r (takes r c.args.node.now.path) c.as_slice.result.now ++ (optional_sites r c.args.node.now.count ++ optional_sites r c.args.node.now.factor)) (λ r. node_sites r c.args.node.now) c.walk_counts.result
+    (λ r. ap (λ z. site r (DeclaresNode c.args.node.now) ∷ (given_all r (takes r c.args.node.now.path) z ++ (optional_sites r c.args.node.now.count ++ optional_sites r c.args.node.now.factor))) (sym c.as_slice.ensures)) c.in_ok-meet.ensures
+    (then-part c.meet.new.self c.walk_args.new.steps c.walk_counts.new.steps (λ r. given_all r (takes r c.args.node.now.path) c.as_slice.result.now) (λ r. optional_sites r c.args.node.now.count ++ optional_sites r c.args.node.now.factor) c.walk_counts.result c.in_ok-walk_args.ensures c.walk_counts.ensures)

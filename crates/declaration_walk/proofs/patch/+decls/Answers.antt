@@ -22,10 +22,10 @@ pub walk_decl-returns-in-Graph : goal.walk_decl-returns-in-Graph
 walk_decl-returns-in-Graph t c = graph-part c.args.steps.now c.walk_unit-in-Graph.new.steps c.in-Graph.unit c.args.decl.now c.walk_unit-in-Graph.result c.in-Graph.is c.walk_unit-in-Graph.ensures
 
 pub walk_decl-returns-in-Shared : goal.walk_decl-returns-in-Shared
-walk_decl-returns-in-Shared t c = shared-decl c.args.steps.now c.walk_alone.new.steps c.in-Shared.shared c.args.decl.now c.walk_alone.result c.in-Shared.is c.walk_alone.ensures
+walk_decl-returns-in-Shared t c = shared-decl c.args.steps.now c.walk_shared.new.steps c.in-Shared.shared c.args.decl.now c.walk_shared.result c.in-Shared.is c.walk_shared.ensures
 
 pub walk_decl-returns-in-Function : goal.walk_decl-returns-in-Function
-walk_decl-returns-in-Function t c = function-decl c.args.steps.now c.walk_function_alone.new.steps c.in-Function.function c.args.decl.now c.walk_function_alone.result c.in-Function.is c.walk_function_alone.ensures
+walk_decl-returns-in-Function t c = function-decl c.args.steps.now c.walk_function.new.steps c.in-Function.function c.args.decl.now c.walk_function.result c.in-Function.is c.walk_function.ensures
 
 pub walk_namespace-returns : goal.walk_namespace-returns
 walk_namespace-returns t c = namespace-part c.args.steps.now c.enter_spaces.new.steps c.walk_decls.new.steps c.leave_spaces.new.steps c.args.path.now.names c.as_slice.result.now c.as_slice-2.result.now (λ all space. flat_map (decl_sites all space) c.args.decls.now) c.leave_spaces.result c.as_slice.ensures c.as_slice-2.ensures c.in_ok-enter_spaces.ensures c.in_ok-walk_decls.ensures c.leave_spaces.ensures

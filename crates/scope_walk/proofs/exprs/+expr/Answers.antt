@@ -1,8 +1,9 @@
-use Rattle.std.proofs.Common.{ap, sym, ◌∙◌, ◌++◌, arith, flat_map}
+use Rattle.std.proofs.Common.{ap, sym, ◌∙◌, ◌++◌, ◌∷◌, [], arith, flat_map, refl}
 use Rattle.cm_tree.specs.declared.expr.Expr.{Expr}
-use Rattle.cm_meaning.specs.Sites.{arguments_sites, base_sites, expr_sites}
-use Rattle.cm_meaning.specs.SiteEquations.{expr_sites-Number, expr_sites-Truth, expr_sites-Construct, expr_sites-Paren, expr_sites-Field, expr_sites-Index, expr_sites-Unary, expr_sites-Binary, expr_sites-Choice, base_sites-Bool, base_sites-Int, base_sites-Int32, base_sites-Int64, base_sites-Wrap, base_sites-Clamp}
-use Rattle.scope_walk.proofs.StepLemmas.{no-part, look-part, look-then, one-part, two-parts, three-parts, parts-start, parts-next, parts-all, name-found, call-found, arguments-part}
+use Rattle.cm_meaning.specs.Sites.{Calls, Reads, TakesArgument, arguments_sites, base_sites, expr_sites, site}
+use Rattle.cm_meaning.specs.SiteEquations.{expr_sites-Number, expr_sites-Truth, expr_sites-Name, expr_sites-Call, expr_sites-Construct, expr_sites-Paren, expr_sites-Field, expr_sites-Index, expr_sites-Unary, expr_sites-Binary, expr_sites-Choice, base_sites-Bool, base_sites-Int, base_sites-Int32, base_sites-Int64, base_sites-Wrap, base_sites-Clamp}
+use Rattle.scope_walk.specs.Bodies.{argument_sites}
+use Rattle.scope_walk.proofs.StepLemmas.{no-part, meet-part, meet-then, one-part, two-parts, three-parts, parts-start, parts-next, parts-all}
 use Rattle.scope_walk.proofs.exprs.+expr.Goals as goal
 
 pub walk_base-returns-in-Bool : goal.walk_base-returns-in-Bool
@@ -32,19 +33,36 @@ pub walk_expr-returns-in-Truth : goal.walk_expr-returns-in-Truth
 walk_expr-returns-in-Truth t c = no-part c.args.steps.now (λ r. expr_sites r c.args.tree.now) (λ r. ap (expr_sites r) c.in-Truth.is ∙ expr_sites-Truth r c.in-Truth.field-0 c.in-Truth.field-1)
 
 pub walk_expr-returns-in-Name : goal.walk_expr-returns-in-Name
-walk_expr-returns-in-Name t c = look-part c.args.steps.now c.look.new.self c.in-Name.path (λ r. expr_sites r c.args.tree.now) c.look.result (λ r. name-found r c.in-Name.path c.args.tree.now c.in-Name.is) c.look.ensures
+walk_expr-returns-in-Name t c = meet-part c.args.steps.now c.meet.new.self (Reads c.in-Name.path) (λ r. expr_sites r c.args.tree.now) c.meet.result (λ r. ap (expr_sites r) c.in-Name.is ∙ expr_sites-Name r c.in-Name.path) c.meet.ensures
 
-pub walk_expr-returns-in_ok-look-in-Call : goal.walk_expr-returns-in_ok-look-in-Call
-walk_expr-returns-in_ok-look-in-Call t c = look-then c.args.steps.now c.look-in-Call.new.self c.walk_exprs.new.steps c.in-Call.path (λ r. flat_map (expr_sites r) c.as_slice.result.now) (λ r. expr_sites r c.args.tree.now) c.walk_exprs.result
-    (λ r. call-found r c.in-Call.path c.in-Call.args c.as_slice.result.now c.args.tree.now c.in-Call.is c.as_slice.ensures) c.in_ok-look-in-Call.ensures c.walk_exprs.ensures
+pub walk_expr-returns-in-Call : goal.walk_expr-returns-in-Call
+walk_expr-returns-in-Call t c = one-part c.args.steps.now c.walk_call.new.steps (λ r. site r (Calls c.in-Call.path c.as_slice.result.now) ∷ arguments_sites r c.as_slice.result.now) (λ r. expr_sites r c.args.tree.now) c.walk_call.result
+    (λ r. ap (expr_sites r) c.in-Call.is ∙ expr_sites-Call r c.in-Call.path c.in-Call.args ∙ ap (λ z. site r (Calls c.in-Call.path z) ∷ arguments_sites r z) (sym c.as_slice.ensures)) c.walk_call.ensures
+
+pub walk_call-returns : goal.walk_call-returns
+walk_call-returns t c = meet-then c.args.steps.now c.meet.new.self c.walk_arguments.new.steps (Calls c.args.path.now c.args.args.now) (λ r. arguments_sites r c.args.args.now) (λ r. site r (Calls c.args.path.now c.args.args.now) ∷ arguments_sites r c.args.args.now) c.walk_arguments.result
+    (λ r. refl) c.in_ok-meet.ensures c.walk_arguments.ensures
+
+pub walk_argument-returns : goal.walk_argument-returns
+walk_argument-returns t c = meet-then c.args.steps.now c.meet.new.self c.walk_expr.new.steps (TakesArgument c.args.tree.now) (λ r. expr_sites r c.args.tree.now) (λ r. argument_sites r c.args.tree.now) c.walk_expr.result
+    (λ r. refl) c.in_ok-meet.ensures c.walk_expr.ensures
+
+pub walk_arguments-loop-tree-init : goal.walk_arguments-loop-tree-init
+walk_arguments-loop-tree-init t c = parts-start argument_sites c.args.trees.now c.args.steps.now
+
+pub walk_arguments-loop-tree-preserved : goal.walk_arguments-loop-tree-preserved
+walk_arguments-loop-tree-preserved t c = parts-next argument_sites c.args.trees.now c.loop-tree.tree-index c.tree-item.result c.args.steps.now c.loop-tree.steps c.walk_argument.new.steps c.loop-tree-test.true c.tree-item.is c.loop-tree.invariant c.in_ok-walk_argument.ensures
+
+pub walk_arguments-returns : goal.walk_arguments-returns
+walk_arguments-returns t c = parts-all argument_sites c.args.trees.now c.loop-tree.tree-index c.args.steps.now c.loop-tree.steps (let w = c.loop-tree-test.false in let e = c.loop-tree.auto.tree-index-end in omega arith) c.loop-tree.invariant
 
 pub walk_expr-returns-in_ok-walk_exprs-in-Construct : goal.walk_expr-returns-in_ok-walk_exprs-in-Construct
-walk_expr-returns-in_ok-walk_exprs-in-Construct t c = three-parts c.args.steps.now c.walk_base.new.steps c.walk_exprs-in-Construct.new.steps c.walk_exprs-in-Construct-2.new.steps
-    (λ r. base_sites r c.in-Construct.base) (λ r. flat_map (expr_sites r) c.as_slice-in-Construct.result.now) (λ r. arguments_sites r c.in-Construct.args) (λ r. expr_sites r c.args.tree.now) c.walk_exprs-in-Construct-2.result
+walk_expr-returns-in_ok-walk_exprs-in-Construct t c = three-parts c.args.steps.now c.walk_base.new.steps c.walk_exprs.new.steps c.walk_arguments.new.steps
+    (λ r. base_sites r c.in-Construct.base) (λ r. flat_map (expr_sites r) c.as_slice-in-Construct.result.now) (λ r. arguments_sites r c.as_slice-in-Construct-2.result.now) (λ r. expr_sites r c.args.tree.now) c.walk_arguments.result
     (λ r. ap (expr_sites r) c.in-Construct.is ∙ expr_sites-Construct r c.in-Construct.base c.in-Construct.sizes c.in-Construct.args
-    ∙ ap (λ z. base_sites r c.in-Construct.base ++ (flat_map (expr_sites r) z ++ arguments_sites r c.in-Construct.args)) (sym c.as_slice-in-Construct.ensures))
-    c.in_ok-walk_base-in-Construct.ensures c.in_ok-walk_exprs-in-Construct.ensures
-    (arguments-part c.walk_exprs-in-Construct.new.steps c.walk_exprs-in-Construct-2.new.steps c.in-Construct.args c.as_slice-in-Construct-2.result.now c.walk_exprs-in-Construct-2.result c.as_slice-in-Construct-2.ensures c.walk_exprs-in-Construct-2.ensures)
+    ∙ ap (λ z. base_sites r c.in-Construct.base ++ (flat_map (expr_sites r) z ++ arguments_sites r c.in-Construct.args)) (sym c.as_slice-in-Construct.ensures)
+    ∙ ap (λ z. base_sites r c.in-Construct.base ++ (flat_map (expr_sites r) c.as_slice-in-Construct.result.now ++ arguments_sites r z)) (sym c.as_slice-in-Construct-2.ensures))
+    c.in_ok-walk_base-in-Construct.ensures c.in_ok-walk_exprs-in-Construct.ensures c.walk_arguments.ensures
 
 pub walk_expr-returns-in-Paren : goal.walk_expr-returns-in-Paren
 walk_expr-returns-in-Paren t c = one-part c.args.steps.now c.walk_expr.new.steps (λ r. expr_sites r c.get.result.now) (λ r. expr_sites r c.args.tree.now) c.walk_expr.result

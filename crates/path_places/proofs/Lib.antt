@@ -1,0 +1,13 @@
+pub mod Follow
+pub mod Exprs
+pub mod Stmts
+pub mod Members
+pub mod Decls
+pub mod Places
+pub mod Files
+pub mod Rise
+pub mod NoWords
+pub mod Fits
+pub mod StmtWords
+pub mod DeclWords
+pub mod Apart

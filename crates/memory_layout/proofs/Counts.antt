@@ -9,7 +9,7 @@ use Rattle.cm_core.specs.declared.core_type.StructType.{StructType}
 use Rattle.cm_core.specs.Types.{elements, base_count, known_count, counts_after}
 use Rattle.memory_layout.specs.Held.{held, held_counts}
 
-held_product : (n s m : ℕ) → min (n * min s m) m ≡ min (n * s) m
+pub held_product : (n s m : ℕ) → min (n * min s m) m ≡ min (n * s) m
 held_product zero s m = grind arith
 held_product (suc n) s m = grind arith
 

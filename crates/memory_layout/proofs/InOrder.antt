@@ -1,5 +1,5 @@
 -- The leaves of an order, from the last to the first.
-use Rattle.std.specs.Prelude.{◌≡◌, refl, ℕ, zero, suc, ◌+◌, ◌-◌, ◌≤◌, ◌<◌, ◌==◌, ◌||◌, Bool, true, false, List, [], ◌∷◌, length, map, All, drop, get_or, slice_set, slice_index, slice_index_or, position}
+use Rattle.std.specs.Prelude.{◌≡◌, refl, ℕ, zero, suc, ◌+◌, ◌-◌, ◌≤◌, ◌<◌, ◌==◌, ◌||◌, Bool, true, false, List, [], ◌∷◌, length, map, All, drop, get_or, slice_set, slice_index, position}
 use Rattle.std.proofs.Common.{ap, sym, ◌∙◌, subst, arith}
 use Rattle.std.proofs.lemmas.Bool.{eqb-true, eqb-false, eq-eqb}
 use Rattle.std.proofs.lemmas.List.{get_or-set_same, get_or-set_other, length-drop}
@@ -7,7 +7,6 @@ use Rattle.std.proofs.Math.Seq.{drop-cons}
 use Rattle.cm_base.specs.declared.place.LeafId.{LeafId}
 use Rattle.cm_core.specs.declared.flat.Chain.{Chain}
 use Rattle.cm_core.specs.declared.unit.Handler.{Handler}
-use Rattle.cm_core.specs.Calls.{handler_at}
 use Rattle.cm_core.specs.Code.{stmt_of}
 use Rattle.cm_core.specs.Forward.{has_leaf}
 use Rattle.cm_core.specs.Linked.{Linked, unit_at, leaf_point}

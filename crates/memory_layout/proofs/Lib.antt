@@ -1,11 +1,14 @@
+mod Ahead
 mod Alike
 mod Among
 mod AtLeaf
 mod Functions
 mod Counts
+mod Handled
 mod InOrder
 mod Own
 mod Past
 mod Settled
 mod Starts
+mod Sums
 mod Whole

@@ -1,6 +1,6 @@
 -- The events that start at an endpoint, chain by chain, and what they count together.
 use Rattle.std.specs.Prelude.{◌≡◌, refl, ℕ, ◌+◌, ◌<◌, ◌==◌, ◌&&◌, if◌then◌else◌, Bool, true, false, List, [], ◌∷◌, ◌++◌, length, sum_by, Option, Some, None, take, get_or, cond}
-use Rattle.std.specs.List.{filter_map, cons_option}
+use Rattle.std.specs.List.{cons_option}
 use Rattle.std.proofs.Common.{ap, sym, ◌∙◌, arith}
 use Rattle.std.proofs.lemmas.Grind.{common_steps}
 use Rattle.std.proofs.lemmas.List.Elements.{filter_map-append}
@@ -9,12 +9,11 @@ use Rattle.cm_base.specs.Parts.{is_event}
 use Rattle.cm_base.specs.declared.place.LeafId.{LeafId}
 use Rattle.cm_base.specs.declared.place.EndId.{EndId}
 use Rattle.cm_core.specs.declared.flat.Chain.{Chain}
-use Rattle.cm_core.specs.declared.flat.Point.{Point}
 use Rattle.cm_core.specs.Linked.{Linked, same_leaf}
 use Rattle.cm_core.specs.Measures.{along, reached_size}
 use Rattle.cm_core.specs.Sizes.{scalars}
 use Rattle.memory_layout.specs.declared.events.Event.{Event}
-use Rattle.memory_layout.specs.Events.{event_of, event_from, events_from, event_size}
+use Rattle.memory_layout.specs.Events.{event_of, events_from, event_size}
 
 -- one chain more
 pub events_more : (chains : List Chain) (i x : ℕ) (d : Chain) → i < length chains → events_from (take (i + 1) chains) x ≡ events_from (take i chains) x

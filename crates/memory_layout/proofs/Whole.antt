@@ -5,7 +5,7 @@ use Rattle.cm_core.specs.declared.core_type.StructType.{StructType}
 use Rattle.cm_core.specs.declared.unit.Unit.{Unit as CoreUnit}
 use Rattle.cm_core.specs.declared.unit.Function.{Function}
 use Rattle.cm_core.specs.declared.unit.Handler.{Handler}
-use Rattle.cm_core.specs.Code.{Stmt, stmt_of}
+use Rattle.cm_core.specs.Code.{stmt_of}
 use Rattle.cm_core.specs.Calls.{Numbered}
 use Rattle.cm_core.specs.Sizes.{stmt_size}
 use Rattle.cm_core.specs.Measures.{measured_in, measured, size_among, body_sizes, handler_size, unit_size}

@@ -2,7 +2,9 @@ pub mod Events
 pub mod Graphs
 pub mod Held
 pub mod Onward
+pub mod Ordered
 pub mod Parts
 pub mod Scales
+pub mod Totals
 pub mod Uses
 pub mod Views

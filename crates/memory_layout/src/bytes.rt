@@ -17,6 +17,13 @@ pub fn scalar_bytes(kind: Scalar) -> u64
     }
 }
 
+/// How many scalars a shape counts for, which is 1 where it has none.
+pub fn shape_scalars(shape: &[Scalar]) -> u64
+    ensures { result ≡ held (sizes.scalars shape.now) }
+{
+    (shape.len() as u64).max(1)
+}
+
 /// How many bytes some scalars take.
 pub fn bytes_of(shape: &[Scalar]) -> u64
     ensures { result ≡ held (sizes.bytes_of shape.now) }

@@ -11,7 +11,7 @@ ghost use Rattle.memory_layout.specs.Held.{held};
 
 use crate::events::Event;
 use cm_base::{EndId, Items, LeafId, NodeId};
-use cm_core::{Filled, Flat, Handler, Program, Unit};
+use cm_core::{Filled, Flat, Handler, Leaf, Program, Unit};
 
 /// A program with its leaves and chains, their extra delays, and the order of its leaves.
 #[derive(Clone, Copy)]
@@ -69,6 +69,13 @@ fn body_at(sizes: &[Items<u64>], leaf: LeafId, handler: usize) -> u64
 }
 
 impl<'a> Graph<'a> {
+    /// The unit of a leaf that is given itself.
+    pub fn unit_of(&self, leaf: &Leaf) -> Option<&'a Unit>
+        ensures { unwrap_or (option_copied result) linked.no_unit ≡ linked.unit_numbered (linked_of self.now) (Some leaf.now) }
+    {
+        self.program.units.get(leaf.unit as usize)
+    }
+
     /// The unit of a leaf.
     pub fn unit(&self, leaf: LeafId) -> Option<&'a Unit>
         ensures { unwrap_or (option_copied result) linked.no_unit ≡ linked.unit_at (linked_of self.now) leaf.0 }

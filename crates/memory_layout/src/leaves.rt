@@ -131,6 +131,7 @@ impl<'a> Graph<'a> {
         requires order { GoForward self.now.flat.now.chains self.now.order.now }
         requires leaves { All (λ leaf. leaf.0 < length self.now.flat.now.leaves) self.now.order.now }
         requires count { length self.now.order.now ≡ length self.now.flat.now.leaves }
+        ensures len { IfOk result (λ found. vec_len found.leaves ≡ length self.now.flat.now.leaves) }
         ensures leaves { IfOk result (λ found. (j : ℕ) → has_leaf self.now.order.now j ≡ true → slice_index found.leaves.items j ≡ held (measures.leaf_size (linked_of self.now) j)) }
         ensures handlers { IfOk result (λ found. (j : ℕ) → has_leaf self.now.order.now j ≡ true → (e : ℕ) → held (handled_in (linked_of self.now) found.handlers.items j e) ≡ held (measures.handled_size (linked_of self.now) (length self.now.flat.now.leaves) j e)) }
     {

@@ -22,8 +22,8 @@ pub struct UnitSizes {
     pub handlers: Items<u64>,
 }
 
-// How many scalars the endpoints count for.
-fn ends_size(ends: &[End]) -> u64
+/// How many scalars the endpoints count for.
+pub fn ends_size(ends: &[End]) -> u64
     ensures { result ≡ held (sum_by (λ end. sizes.scalars end.shape) ends.now) }
 {
     let mut count: u64 = 0;

@@ -1,14 +1,7 @@
-use Rattle.std.proofs.Common.{rules, ◌≡◌, ◌+◌, ◌-◌, ◌<◌, ◌≤◌, ◌∙◌, ap, refl, sym, subst, List, ℕ, length, drop, map, get_or, arith}
+use Rattle.std.proofs.Common.{rules, ◌-◌, ◌<◌, ◌≤◌, length, get_or, arith}
 use Rattle.std.proofs.lemmas.Grind.{common_steps}
-use Rattle.cm_base.specs.declared.place.LeafId.{LeafId}
-use Rattle.cm_core.specs.declared.unit.Handler.{Handler}
-use Rattle.cm_core.specs.Code.{stmt_of}
-use Rattle.cm_core.specs.Linked.{unit_at, leaf_point}
-use Rattle.cm_core.specs.Measures.{measured, chains_size, unit_size}
-use Rattle.cm_core.specs.Sizes.{stmt_size}
-use Rattle.memory_layout.specs.Graphs.{linked_of, handled_in}
-use Rattle.memory_layout.specs.Held.{held}
-use Rattle.memory_layout.proofs.InOrder.{AreSized, sized_step}
+use Rattle.memory_layout.specs.Graphs.{linked_of}
+use Rattle.memory_layout.proofs.InOrder.{sized_step}
 use Rattle.memory_layout.proofs.graph.Graph.leaf_sizes.Goals as goal
 
 pub loop-left-preserved : goal.loop-left-preserved

@@ -1,8 +1,5 @@
-use Rattle.std.proofs.Common.{◌≡◌, ◌≤◌, ℕ, length, drop, vec_len, get_or, true}
-use Rattle.cm_core.specs.Forward.{has_leaf}
-use Rattle.cm_core.specs.Measures.{leaf_size, handled_size}
-use Rattle.memory_layout.specs.Graphs.{linked_of, handled_in}
-use Rattle.memory_layout.specs.Held.{held}
+use Rattle.std.proofs.Common.{◌≡◌, ◌≤◌, length, drop, vec_len}
+use Rattle.memory_layout.specs.Graphs.{linked_of}
 use Rattle.memory_layout.proofs.InOrder.{AreSized}
 use Rattle.memory_layout.proofs.graph.Graph.leaf_sizes.Given as goal
 

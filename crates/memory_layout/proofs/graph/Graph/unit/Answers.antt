@@ -1,4 +1,4 @@
-use Rattle.std.proofs.Common.{sym, ap, ◌∙◌, Option, unwrap_or}
+use Rattle.std.proofs.Common.{ap, ◌∙◌, Option, unwrap_or}
 use Rattle.std.proofs.lemmas.Option.{unwrap_or-slice_get}
 use Rattle.cm_core.specs.declared.flat.Leaf.{Leaf}
 use Rattle.cm_core.specs.declared.unit.Unit.{Unit as CoreUnit}

@@ -1,4 +1,4 @@
-use Rattle.std.proofs.Common.{ap, ◌∙◌, sym, subst, List, ℕ, map}
+use Rattle.std.proofs.Common.{ap, ◌∙◌, List, map}
 use Rattle.cm_core.specs.declared.unit.Handler.{Handler}
 use Rattle.cm_core.specs.declared.core_type.StructType.{StructType}
 use Rattle.cm_core.specs.Code.{stmt_of}

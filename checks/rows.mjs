@@ -1,5 +1,5 @@
 // Has node's WebAssembly answer the lines of rows of modules that it can answer, and tells where an answer isn't the one that
-// stands there: checks/modules.rows says what the lines mean. Budgets, counts of reductions, globals, slots and
+// stands there: crates/module_rows/stdin says what the lines mean. Budgets, counts of reductions, globals, slots and
 // snapshots are the runner's own, and node doesn't answer them, nor what follows them in a row up to the next start.
 //
 // usage: node checks/rows.mjs ROWS          compares

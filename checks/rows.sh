@@ -5,5 +5,5 @@ CDPATH='' cd -- "$(dirname -- "$0")/.." || exit 2
 . checks/expect.bash || exit 2
 command -v node >/dev/null || skip "no node"
 
-node checks/rows.mjs checks/modules.rows || failed=1
+node checks/rows.mjs crates/module_rows/stdin || failed=1
 exit "$failed"

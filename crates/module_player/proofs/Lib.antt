@@ -10,6 +10,7 @@ pub mod PartsPlayed
 pub mod Pieces
 pub mod Places
 pub mod Quiet
+pub mod Resuming
 pub mod RoomLemmas
 pub mod Starting
 pub mod States

@@ -29,7 +29,7 @@ is_event_input end = is_input end.flow && is_event end.kind
 
 -- ---- zeros
 
-zeros_shaped : (shape : List Scalar) → AllByRecursion IsLawfulScalar shape → HasShape shape (replicate (length shape) (pos 0))
+pub zeros_shaped : (shape : List Scalar) → AllByRecursion IsLawfulScalar shape → HasShape shape (replicate (length shape) (pos 0))
 zeros_shaped shape lawful =
     let n : ℕ = length shape in
     let all : take n (replicate n (pos 0)) ≡ replicate n (pos 0) = take_all n (replicate n (pos 0)) (omega (arith, length-replicate n (pos 0))) in
@@ -39,7 +39,7 @@ zeros_are : (slots : List Slot) → AllByRecursion IsLawfulEnd (ends_in slots) �
 zeros_are [] lawful = refl
 zeros_are (slot ∷ slots) lawful = (zeros_shaped slot.end.shape lawful.0.scalars, zeros_are slots lawful.1)
 
-zeros_long : (slots : List Slot) → HaveRooms slots (zeros_of (ends_in slots))
+pub zeros_long : (slots : List Slot) → HaveRooms slots (zeros_of (ends_in slots))
 zeros_long [] = tt
 zeros_long (slot ∷ slots) = (length-replicate (length slot.end.shape) (pos 0), zeros_long slots)
 

@@ -63,7 +63,7 @@ left_of (first ∷ xs) (suc number) x e = left_of xs number x e ∙ ap (λ n. x 
 one_less : {X : Type 0} (xs : List X) (number : ℕ) → drop 1 (drop number xs) ≡ drop (number + 1) xs
 one_less xs number = drop-drop 1 number xs
 
-first_left : (streams : List (List ℤ)) (number : ℕ) → first_of (drop number streams) ≡ get_or streams number []
+pub first_left : (streams : List (List ℤ)) (number : ℕ) → first_of (drop number streams) ≡ get_or streams number []
 first_left [] zero = refl
 first_left [] (suc number) = refl
 first_left (given ∷ streams) zero = refl
@@ -118,7 +118,7 @@ all_streams slots streams entry frame number memory before l h =
 
 -- ---- values
 
-others_left : (current : List (List ℤ)) (number : ℕ) → others_of (drop number current) ≡ drop (number + 1) current
+pub others_left : (current : List (List ℤ)) (number : ℕ) → others_of (drop number current) ≡ drop (number + 1) current
 others_left [] zero = refl
 others_left [] (suc number) = ap (λ n. drop n []) (one_after number)
 others_left (value ∷ current) zero = refl

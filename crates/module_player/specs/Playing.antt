@@ -1,5 +1,5 @@
 -- A module whose run is played, task by task: docs/MODULE.md, "How a run goes".
-use Rattle.std.specs.Prelude.{ℕ, ◌≡◌, ◌++◌, List, [], Bool, None, ℤ}
+use Rattle.std.specs.Prelude.{ℕ, ◌≡◌, ◌++◌, List, [], Bool, true, None, ℤ}
 use Rattle.cm_base.specs.declared.play.Item.{Item}
 use Rattle.cm_base.specs.declared.play.Saved.{Saved}
 use Rattle.cm_base.specs.declared.play.Script.{Script}
@@ -39,6 +39,11 @@ pub record IsSame (p q : Playing) : Type 0 where
 -- an instance between two parts, after this trace
 abbrev pub instance_of : Playing → List Item → Instance
 instance_of p trace = record { globals = p.globals; memory = p.memory; current = p.current; block = None; trace = trace }
+
+-- the module with what an instance holds, ready for its next part
+abbrev pub resumed : Checked → (steps : ℕ) → Instance → Playing
+resumed checked steps instance =
+    record { of = checked; steps = steps; globals = instance.globals; memory = instance.memory; live = true; current = instance.current }
 
 -- where the run stops that goes on with these tasks
 abbrev pub goes : Playing → List Task → Instance → Stop Instance

@@ -1,6 +1,6 @@
 // What a host gives to a module, and keeps for it.
 
-ghost use Rattle.std.specs.Prelude.{ℕ, ◌≡◌, ◌<◌, ◌≤◌, ◌+◌, ◌^◌, ◌∷◌, ◌&&◌, [], length, map, replicate, slice_set, slice_get, pos, IfOk};
+ghost use Rattle.std.specs.Prelude.{ℕ, ◌≡◌, ◌<◌, ◌≤◌, ◌+◌, ◌^◌, ◌∷◌, ◌&&◌, [], length, map, replicate, slice_set, slice_get, pos, if◌then◌else◌, IfOk};
 ghost use Rattle.std.specs.Option.{IfSome};
 ghost use Rattle.cm_base.specs.declared.host.Kind.TheVariants as kinds;
 ghost use Rattle.cm_base.specs.Parts.{inputs_at, is_input, is_event};
@@ -8,8 +8,10 @@ ghost use Rattle.cm_base.specs.Scripts.{HasShape};
 ghost use Rattle.cm_base.specs.Tasks.{AreInputs, IsTaken};
 ghost use Rattle.wasm_tree.specs.HostRun.{zeros_of};
 ghost use Rattle.wasm_tree.specs.Section.{block_length};
-ghost use Rattle.wasm_tree.specs.Slots.{event_number as number_of_event, write_inputs as with_inputs, write_values as with_values, write_block as with_block, write_event as with_event};
+ghost use Rattle.wasm_tree.specs.Stopped.{kept_current, restored_current};
+ghost use Rattle.wasm_tree.specs.Slots.{is_value_input as takes_value, event_number as number_of_event, write_inputs as with_inputs, write_values as with_values, write_block as with_block, write_event as with_event};
 ghost use Rattle.wasm_runner.specs.Running.{running};
+ghost use Rattle.wasm_runner.specs.Snapshots.{kept_kinds};
 ghost use Rattle.module_player.specs.Given.{given_by, numbers_from, inputs_from};
 ghost use Rattle.module_player.specs.Rooms.{AreRooms};
 ghost use Rattle.module_player.specs.Writing.{ends_in};
@@ -52,6 +54,66 @@ fn zeros(alloc: Global, ends: &[HostEnd]) -> Result<Vec<Scalars>, NoMemory>
     Ok(all)
 }
 
+fn is_value_input(end: &HostEnd) -> bool
+    ensures { result ≡ takes_value end.now }
+{
+    matches!((end.flow, end.kind), (Flow::Input, Kind::Value))
+}
+
+// How many scalars a snapshot has of the endpoint.
+fn kept_count(end: &HostEnd) -> usize
+    ensures { result ≡ (if takes_value end.now then length end.now.shape else 0) }
+{
+    if is_value_input(end) {
+        end.shape.len()
+    } else {
+        0
+    }
+}
+
+// What an endpoint is resumed with, of which a snapshot has these scalars.
+fn restored_value(alloc: Global, end: &HostEnd, kept: &[i64]) -> Result<Scalars, NoMemory>
+    ensures { IfOk result (λ value. value ≡ (if takes_value end.now then kept.now else replicate (length end.now.shape) (pos 0))) }
+{
+    if is_value_input(end) {
+        return Ok(Scalars::from_slice(alloc, kept)?);
+    }
+    Ok(Scalars::from_vec(vec![in alloc; 0; end.shape.len()]?))
+}
+
+// What the endpoints are resumed with, of which a snapshot has these scalars.
+fn restored(alloc: Global, ends: &[HostEnd], kept: &[i64]) -> Result<Vec<Scalars>, NoMemory>
+    ensures { IfOk result (λ all. all.items ≡ restored_current ends.now kept.now) }
+{
+    let mut all = Vec::new(alloc);
+    let mut rest = kept;
+    for end in ends {
+        let (front, back) = rest.split_at(kept_count(end).min(rest.len()));
+        all.push(restored_value(alloc, end, front)?)?;
+        rest = back;
+    }
+    Ok(all)
+}
+
+// What a snapshot keeps of an endpoint with this current value.
+fn kept_value<'a>(end: &HostEnd, value: &'a [i64]) -> &'a [i64]
+    ensures { result.now ≡ (if takes_value end.now then value.now else []) }
+{
+    if is_value_input(end) { value } else { &[] }
+}
+
+// What a snapshot keeps of endpoints with these current values.
+fn kept(alloc: Global, ends: &[HostEnd], current: &[Scalars]) -> Result<Scalars, NoMemory>
+    requires { length current.now ≡ length ends.now }
+    ensures { IfOk result (λ all. all ≡ kept_current ends.now current.now) }
+{
+    let mut all = Vec::new(alloc);
+    for number in 0..ends.len() {
+        all.extend_from_slice(kept_value(&ends[number], current[number].as_slice()))?;
+    }
+    Ok(Scalars::from_vec(all))
+}
+
 fn is_event_input(end: &HostEnd) -> bool
     ensures { result ≡ (is_input end.now.flow && is_event end.now.kind) }
 {
@@ -87,6 +149,29 @@ impl InputState {
             rooms,
             numbers,
         })
+    }
+
+    /// What a host resumes with: the value inputs take the scalars of a snapshot, and the other values are zero.
+    pub fn resume(alloc: Global, slots: Slots, kept: &[i64]) -> Result<InputState, NoMemory>
+        requires { HasShape (kept_kinds (ends_in slots)) kept.now }
+        ensures { IfOk result (λ state. state ≡ given_by slots (restored_current (ends_in slots) kept.now)) }
+    {
+        let current = restored(alloc, slots.host().as_slice(), kept)?;
+        let rooms = zeros(alloc, slots.host().as_slice())?;
+        let numbers = numbers(alloc, &slots)?;
+        Ok(InputState {
+            slots,
+            current,
+            rooms,
+            numbers,
+        })
+    }
+
+    /// The current values of the value inputs, one after another, as a snapshot has them.
+    pub fn kept(&self, alloc: Global) -> Result<Scalars, NoMemory>
+        ensures { IfOk result (λ kept. kept ≡ kept_current (ends_in self.now.slots) self.now.current) }
+    {
+        kept(alloc, self.slots.host().as_slice(), &self.current)
     }
 
     /// The slots, in declaration order. It takes no memory.

@@ -5,6 +5,7 @@
 //! `specs/Telling` how items are told, and `specs/Coming` how calls and pieces of a run come out.
 //! `play` plays a whole run: `inputs` writes what the streams and values carry, `given` keeps the current values, `player`
 //! carries out one part after another, `run` goes through the frames of a script and `played` through the starting values.
+//! `Player::snapshot` gives what a stopped run keeps, and `Player::resume` the player that goes on from it.
 //! The invariant is always `ComesTo` of `specs/Playing`: the run from the tasks that are left is the whole run.
 #![tactic(auto)]
 
@@ -24,4 +25,5 @@ pub use came::{At, Came};
 pub use outputs::Outputs;
 pub use played::{play, play_whole};
 pub use player::Player;
+pub use run::play_script;
 pub use teller::Teller;

@@ -10,19 +10,21 @@ ghost use Rattle.wasm_tree.specs.HostRun.{hears, zeros_of};
 ghost use Rattle.wasm_tree.specs.Instance.{call_of, first_globals, first_memory};
 ghost use Rattle.wasm_tree.specs.Section.{ends_of, block_length};
 ghost use Rattle.wasm_tree.specs.Slots.{event_name};
+ghost use Rattle.wasm_tree.specs.Stopped.{kept_globals as globals_of, restored_instance, snapshot_of};
+ghost use Rattle.wasm_runner.specs.Snapshots.{Fits};
 ghost use Rattle.wasm_valid.specs.Views.{interface_number};
 ghost use Rattle.wasm_runner.specs.declared.host.Ended.TheVariants.{Done};
 ghost use Rattle.module_player.specs.declared.came.Came.TheVariants.{Ended as CameEnded};
 ghost use Rattle.module_player.specs.Coming.{CallTells, Comes, machine_of, frame_list};
 ghost use Rattle.module_player.specs.Given.{inputs_from};
-ghost use Rattle.module_player.specs.Playing.{playing, goes, instance_of, ComesOf, IsSame};
+ghost use Rattle.module_player.specs.Playing.{playing, resumed, goes, instance_of, ComesOf, IsSame};
 
 use crate::calls::{call_frames, call_part};
 use crate::came::{At, Came, came_of};
 use crate::given::InputState;
 use crate::outputs::Outputs;
 use crate::teller::Teller;
-use cm_base::{NoMemory, Scalars};
+use cm_base::{Bytes, NoMemory, Scalars, Snapshot};
 use std::alloc::Global;
 use std::marker::Model;
 use wasm_runner::{Ended, Export, Runner};
@@ -78,6 +80,60 @@ impl Player {
             given,
             outputs,
             steps,
+        })
+    }
+
+    /// The module as a snapshot has it, with all memory that a run needs, and `steps` reductions for each part. `fits` of
+    /// wasm_runner tells whether the snapshot is of the module.
+    pub fn resume(
+        alloc: Global,
+        valid: Valid,
+        snapshot: &Snapshot,
+        steps: u64,
+    ) -> Result<Player, NoMemory>
+        requires { Fits valid.of valid.section snapshot.now }
+        ensures { IfOk result (λ player. player ≡ resumed valid steps (restored_instance valid.of valid.section snapshot.now)) }
+    {
+        let _module = valid.module();
+        let given = InputState::resume(alloc, valid.slots(alloc)?, snapshot.current.as_slice())?;
+        let outputs = Outputs::new(alloc, valid.table())?;
+        let runner = Runner::resume(alloc, valid, snapshot)?;
+        Ok(Player {
+            runner,
+            given,
+            outputs,
+            steps,
+        })
+    }
+
+    // The mutable globals, in order.
+    fn kept_globals(&self, alloc: Global) -> Result<Scalars, NoMemory>
+        requires { self.now.live ≡ true }
+        ensures { IfOk result (λ kept. kept ≡ globals_of self.now.of.of.globals self.now.globals) }
+    {
+        let count = self.runner.global_count();
+        // The greatest number stands for every count from it on: so many globals have no room.
+        if count == u32::MAX {
+            return Err(NoMemory);
+        }
+        let mut kept = Scalars::from_vec(vec![in alloc; 0; count as usize]?);
+        self.runner.globals(&mut kept);
+        Ok(kept)
+    }
+
+    /// The snapshot of the module between two parts: its memory, its mutable globals, and the current values of its value
+    /// inputs.
+    pub fn snapshot(&self, alloc: Global) -> Result<Snapshot, NoMemory>
+        requires { self.now.live ≡ true }
+        ensures { IfOk result (λ snapshot. snapshot ≡ snapshot_of self.now.of.of self.now.of.section (instance_of self.now [])) }
+    {
+        let memory = Bytes::from_slice(alloc, self.runner.memory())?;
+        let globals = self.kept_globals(alloc)?;
+        let current = self.given.kept(alloc)?;
+        Ok(Snapshot {
+            memory,
+            globals,
+            current,
         })
     }
 

@@ -1,10 +1,12 @@
 -- How an outlet tells the items of a run.
-use Rattle.std.proofs.Common.{◌≡◌, ℕ, ℤ, List, [], map, Option, Bor, Bool, true, false, refl, sym, ◌∙◌, ap, subst}
+use Rattle.std.proofs.Common.{◌≡◌, ℕ, ℤ, List, [], map, Option, None, Bor, Bool, true, false, refl, sym, ◌∙◌, ap, subst}
 use Rattle.cm_base.specs.declared.host.HostEnd.{HostEnd}
 use Rattle.cm_base.specs.declared.play.Item.{Item}
 use Rattle.cm_base.specs.declared.play.Saved.{Saved}
 use Rattle.cm_base.specs.declared.play.Script.{Script}
-use Rattle.cm_base.specs.Players.{Stop, AtEnd, Outcome, outcome_of}
+use Rattle.cm_base.specs.declared.play.Snapshot.{Snapshot}
+use Rattle.cm_base.specs.Parts.{frames_from}
+use Rattle.cm_base.specs.Players.{Stop, AtEnd, Outcome, outcome_of, stops}
 use Rattle.item_lines.specs.declared.telling.Told.{Told}
 use Rattle.item_lines.specs.declared.telling.Told.TheVariants as told
 use Rattle.item_lines.specs.Hearing.{ear}
@@ -14,15 +16,17 @@ use Rattle.module_player.specs.declared.came.At.{At}
 use Rattle.module_player.specs.declared.came.At.TheVariants as at
 use Rattle.module_player.specs.declared.came.Came.{Came}
 use Rattle.module_player.specs.Coming.{Comes, ComesThrough, ComesSpent, ComesTrapped, ComesHalted, place_of}
-use Rattle.module_player.specs.Playing.{IsPlayed}
+use Rattle.module_player.specs.declared.came.Came.TheVariants as came
+use Rattle.module_player.specs.Playing.{Playing, ComesTo, IsPlayed, goes, resumed, instance_of}
 use Rattle.module_player.specs.Telling.{TellsAll, TellsNone, TellsNext, StopsAmong}
 use Rattle.wasm_tree.specs.HostRun.{Instance, host_run, host_stops}
+use Rattle.wasm_tree.specs.Stopped.{restored_instance, resumed_run, resumed_stops}
 use Rattle.wasm_tree.specs.Section.{Slot, ends_of}
 use Rattle.wasm_valid.specs.Checked.{Checked}
 use Rattle.run_lines.specs.declared.ending.RunEnd.{RunEnd}
 use Rattle.run_lines.specs.declared.ending.RunEnd.TheVariants as run
 use Rattle.run_lines.specs.declared.outlet.Outlet.{Outlet}
-use Rattle.run_lines.specs.Runs.{RunTells, Whole, Cut, named, end_of, end_at, end_by}
+use Rattle.run_lines.specs.Runs.{RunTells, Whole, Cut, NotBegun, IsLeft, named, end_of, end_at, end_by, due_of, script_stops}
 
 -- what a call of `tell` does, by what is seen of the sink and the listeners
 abbrev pub OutletTells : {O L : Type 0} → (Outlet O L → Outside) → Outlet O L → Item → Bool → Outlet O L → Type 0
@@ -81,9 +85,6 @@ named_place : (p : At) → named (place_of p) ≡ p
 named_place at.Init = refl
 named_place (at.Frame frame) = refl
 
-abbrev due_of : Stop Instance → Outcome
-due_of stop = outcome_of (λ instance. instance.trace) stop
-
 whole : {O L : Type 0} (see : Outlet O L → Outside) (due : Outcome) (a : Outlet O L) (items : List Item) (end : RunEnd) (b : Outlet O L) → due.trace ≡ items → end ≡ end_of due.ending →
     ToldAll see a items b → RunTold see due a end b
 whole see due a items end b trace is told = record {
@@ -140,3 +141,77 @@ pub play_told : {O L : Type 0} (see : Outlet O L → Outside) (of : Checked) (sa
     a.slots.now ≡ of.section.slots → IsPlayed (OutletTells see) of saved script steps a came b → PlayTold see of saved script steps a end b
 play_told see of saved script steps a came end b is slots played =
     subst (λ (e : RunEnd). PlayTold see of saved script steps a e b) (sym is) (told_from_start see of saved script steps a came b slots played)
+
+-- ---- a run that goes on with a player
+
+-- after its last task a run stops at its end
+at_end : (p : Playing) (instance : Instance) → goes p [] instance ≡ AtEnd instance
+unfolding stops
+at_end p instance = refl
+
+to_end : {O L : Type 0} (see : Outlet O L → Outside) (p : Playing) (stop : Stop Instance) (a : Outlet O L) (c : Came) (globals memory : List ℕ) (current : List (List ℤ)) (b : Outlet O L) →
+    Comes (OutletTells see) [] (goes p []) stop a c globals memory current b → Comes (OutletTells see) [] AtEnd stop a c globals memory current b
+to_end see p stop a _ _ _ _ _ (ComesThrough items globals memory current b told is) =
+    ComesThrough items globals memory current b told (is ∙ at_end p (record { globals = globals; memory = memory; current = current; block = None; trace = items }))
+to_end see p stop a _ _ _ _ _ (ComesSpent items globals memory current b part world place told is trace at) = ComesSpent items globals memory current b part world place told is trace at
+to_end see p stop a _ _ _ _ _ (ComesTrapped items globals memory current b part world place told is trace at) = ComesTrapped items globals memory current b part world place told is trace at
+to_end see p stop a _ _ _ _ _ (ComesHalted items globals memory current b is stops) = ComesHalted items globals memory current b is stops
+
+-- a run comes through where it ends by its definition
+ended_came : {O L : Type 0} (see : Outlet O L → Outside) (stop : Stop Instance) (a : Outlet O L) (c : Came) (globals memory : List ℕ) (current : List (List ℤ)) (b : Outlet O L) →
+    Comes (OutletTells see) [] AtEnd stop a c globals memory current b → end_by c b.last ≡ run.Ended → c ≡ came.Ended
+ended_came see stop a _ _ _ _ _ (ComesThrough items globals memory current b told is) e = refl
+ended_came see stop a _ _ _ _ _ (ComesSpent items globals memory current b part world p told is trace place) e = absurd (cc (e))
+ended_came see stop a _ _ _ _ _ (ComesTrapped items globals memory current b part world p told is trace place) e = absurd (cc (e))
+ended_came see stop a _ _ _ _ _ (ComesHalted items globals memory current b trace stops) e = absurd (unheard b.last stops.stopped.4 e)
+  where
+    unheard : (last : Told) → false ≡ is_heard last → end_at last ≡ run.Ended → ⊥
+    unheard told.Heard not is = cc not
+    unheard told.PutFailed not is = cc is
+    unheard told.PutLacksMemory not is = cc is
+    unheard told.LineLacksMemory not is = cc is
+    unheard (told.ListenerFailed number) not is = cc is
+    unheard (told.ListenerLacksMemory number) not is = cc is
+
+-- a run that comes through stops at its end
+through : {O L : Type 0} (see : Outlet O L → Outside) (stop : Stop Instance) (a : Outlet O L) (c : Came) (q : Playing) (b : Outlet O L) →
+    Comes (OutletTells see) [] AtEnd stop a c q.globals q.memory q.current b → c ≡ came.Ended → (trace : List Item) × (stop ≡ AtEnd (instance_of q trace))
+through see stop a _ q _ (ComesThrough items globals memory current b told is) e = (items, is)
+through see stop a _ q _ (ComesSpent items globals memory current b part world p told is trace place) e = absurd (cc (e))
+through see stop a _ q _ (ComesTrapped items globals memory current b part world p told is trace place) e = absurd (cc (e))
+through see stop a _ q _ (ComesHalted items globals memory current b trace stops) e = absurd (cc (e))
+
+-- the references of an outlet, how the run of a script is told that goes on with a player, and where the player then stands
+pub record ScriptTold {O L : Type 0} (see : Outlet O L → Outside) (p : Playing) (script : Script) (a : Outlet O L) (end : RunEnd) (q : Playing) (b : Outlet O L) : Type 0 where
+  pub keeps : Keeps a b
+  pub tells : RunTells (ends_of p.of.section) (due_of (script_stops p script)) (see a) (see b) end
+  pub left : end ≡ run.Ended → IsLeft (script_stops p script) p.of q
+
+script_goes : {O L : Type 0} (see : Outlet O L → Outside) (p : Playing) (script : Script) (a : Outlet O L) (c : Came) (q : Playing) (b : Outlet O L) → a.slots.now ≡ p.of.section.slots →
+    ComesTo (OutletTells see) p (frames_from (ends_of p.of.section) script 0 script.frames) [] a c q b → q.of ≡ p.of → (c ≡ came.Ended → q.live ≡ true) → ScriptTold see p script a (end_by c b.last) q b
+script_goes see p script a c q b slots comes same live =
+    let comes_to_end = to_end see p (script_stops p script) a c q.globals q.memory q.current b (comes []) in
+    let told = run_told see (script_stops p script) a c q.globals q.memory q.current b comes_to_end in
+    record {
+      keeps = told.keeps;
+      tells = subst (λ (s : List Slot). RunTells (ends_in s) (due_of (script_stops p script)) (see a) (see b) (end_by c b.last)) slots told.tells;
+      left = λ e.
+          let ended = ended_came see (script_stops p script) a c q.globals q.memory q.current b comes_to_end e in
+          let stands = through see (script_stops p script) a c q b comes_to_end ended in
+          record { trace = stands.0; ends = stands.1; of = same; live = live ended };
+    }
+
+pub script_told : {O L : Type 0} (see : Outlet O L → Outside) (p : Playing) (script : Script) (a : Outlet O L) (c : Came) (end : RunEnd) (q : Playing) (b : Outlet O L) → end ≡ end_by c b.last → a.slots.now ≡ p.of.section.slots →
+    ComesTo (OutletTells see) p (frames_from (ends_of p.of.section) script 0 script.frames) [] a c q b → q.of ≡ p.of → (c ≡ came.Ended → q.live ≡ true) → ScriptTold see p script a end q b
+script_told see p script a c end q b is slots comes same live =
+    subst (λ (e : RunEnd). ScriptTold see p script a e q b) (sym is) (script_goes see p script a c q b slots comes same live)
+
+-- with the player of a snapshot it is the resumed run
+pub resumed_tells : (of : Checked) (snapshot : Snapshot) (script : Script) (steps : ℕ) (p : Playing) (before after : Outside) (end : RunEnd) → p ≡ resumed of steps (restored_instance of.of of.section snapshot) →
+    RunTells (ends_of p.of.section) (due_of (script_stops p script)) before after end →
+    RunTells (ends_of of.section) (resumed_run of.of of.section snapshot script script.frames steps) before after end
+resumed_tells of snapshot script steps p before after end is tells = subst (λ (x : Playing). RunTells (ends_of x.of.section) (due_of (script_stops x script)) before after end) is tells
+
+pub resumed_left : (of : Checked) (snapshot : Snapshot) (script : Script) (steps : ℕ) (p q : Playing) → p ≡ resumed of steps (restored_instance of.of of.section snapshot) → IsLeft (script_stops p script) p.of q →
+    IsLeft (resumed_stops of.of of.section snapshot script script.frames steps) of q
+resumed_left of snapshot script steps p q is left = subst (λ (x : Playing). IsLeft (script_stops x script) x.of q) is left

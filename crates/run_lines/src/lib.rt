@@ -8,4 +8,4 @@ mod outlet;
 mod run;
 
 pub use ending::RunEnd;
-pub use run::tell_run;
+pub use run::{tell_resumed, tell_run};

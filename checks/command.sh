@@ -105,6 +105,76 @@ expect 10 "steps spent frame 0" play "$out" "$script" 2
 truncate -s 33554433 "$dir/long.wasm"
 expect 4 "too big $dir/long.wasm" play "$dir/long.wasm" "$script" 100
 
+# a stopped run: this module counts its frames at 8 in its memory, from 0 on after `init`
+hex() { printf '%b' "$(printf '%s' "$1" | sed 's/../\\x&/g')"; }
+counter() {
+  hex 0061736D0100000001080260017F00600000020D0104686F737404656D697400000303020101050401010101071903066D656D6F727902000469
+  hex 6E69740001056672616D6500020A25020900410041003602080B1900410041002802084101
+  hex 6A36020841004100280208360204
+  hex 0B001F06636D616A6F72010002000002696E00010100000100036F75740401010000
+}
+# state_of OUT COUNT GLOBALS: a state of the counter without parameters and current values, with these words at 4 and 8 in its
+# memory, all in hexadecimal digits
+state_of() {
+  printf CMS2
+  hex 00000000
+  hex "$(printf '%02X' "$(stat -c %s "$dir/counter.wasm")")000000"
+  cat "$dir/counter.wasm"
+  hex 0000010000000000"$1$2"
+  head -c 65524 /dev/zero
+  hex "$3"00000000
+}
+counter >"$dir/counter.wasm"
+echo '{"frames":2}' >"$dir/two.json"
+echo '{"frames":0}' >"$dir/no.json"
+"$built" play "$dir/counter.wasm" "$dir/two.json" 100 >"$dir/lines" 2>"$dir/stderr" || differs "play of the counter: status $?"
+holds "$dir/lines" $'frame 0 out=1\nframe 1 out=2'
+state_of 07000000 02000000 00000000 >"$dir/stopped"
+state_of 06000000 06000000 00000000 >"$dir/later"
+"$built" resume "$dir/stopped" "$dir/two.json" 100 >"$dir/lines" 2>"$dir/stderr" || differs "resume: status $?"
+holds "$dir/lines" $'frame 0 out=3\nframe 1 out=4'
+holds "$dir/stderr" "listener 0 heard 2"
+"$built" resume "$dir/stopped" "$dir/no.json" 100 "$dir/same" >"$dir/lines" 2>"$dir/stderr" || differs "resume without frames: status $?"
+holds "$dir/lines" ''
+same "$dir/stopped" "$dir/same"
+"$built" resume "$dir/stopped" "$dir/two.json" 100 "$dir/new" >"$dir/lines" 2>"$dir/stderr" || differs "resume to a new state: status $?"
+"$built" resume "$dir/new" "$dir/two.json" 100 "$dir/new" >"$dir/lines" 2>"$dir/stderr" || differs "resume to the same file: status $?"
+holds "$dir/lines" $'frame 0 out=5\nframe 1 out=6'
+same "$dir/later" "$dir/new"
+expect 1 "usage" resume "$dir/stopped" "$dir/two.json"
+expect 1 "usage" resume "$dir/stopped" "$dir/two.json" 100 ""
+expect 1 "usage" resume "$dir/stopped" "$dir/two.json" 72057594037927937
+expect 2 "absent $dir/none" resume "$dir/none" "$dir/none.json" 100
+expect 2 "absent $dir/none.json" resume "$dir/stopped" "$dir/none.json" 100
+printf 'what it held' >"$dir/new"
+printf '{"parameters":{},"version":1}' >"$dir/state"
+expect 6 "state refused Version Whole 0" resume "$dir/state" "$dir/none.json" 100 "$dir/new"
+size=$(stat -c %s "$dir/stopped")
+for count in 4 100 138 $((size - 1)); do
+  head -c "$count" "$dir/stopped" >"$dir/state"
+  expect 6 "state refused Shape Whole 0" resume "$dir/state" "$dir/none.json" 100 "$dir/new"
+done
+head -c 3 "$dir/stopped" >"$dir/state"
+expect 6 "state refused Json Whole 0" resume "$dir/state" "$dir/none.json" 100 "$dir/new"
+{ cat "$dir/stopped"; printf x; } >"$dir/state"
+expect 6 "state refused Shape Whole 0" resume "$dir/state" "$dir/none.json" 100 "$dir/new"
+{ head -c $((size - 65548)) "$dir/stopped"; head -c 12 /dev/zero; } >"$dir/state"
+expect 6 "state refused Snapshot Whole 0" resume "$dir/state" "$dir/none.json" 100 "$dir/new"
+state_of 00000000 02000000 010000000000000000000000 >"$dir/state"
+expect 6 "state refused Snapshot Whole 0" resume "$dir/state" "$dir/none.json" 100 "$dir/new"
+{ printf CMS2; head -c 20 /dev/zero; } >"$dir/state"
+expect 8 "module refused Header 0" resume "$dir/state" "$dir/none.json" 100 "$dir/new"
+expect 7 "input refused Endpoint Streams 0" resume "$dir/stopped" "$dir/script.json" 100 "$dir/new"
+expect 10 "steps spent frame 0" resume "$dir/stopped" "$dir/two.json" 5 "$dir/new"
+holds "$dir/new" 'what it held'
+"$built" resume "$dir/stopped" "$dir/two.json" 100 "$dir/none/new" >"$dir/lines" 2>"$dir/stderr"
+[ $? -eq 12 ] || differs "a state that can't be written isn't told"
+holds "$dir/stderr" "write fault $dir/none/new"
+holds "$dir/lines" $'frame 0 out=3\nframe 1 out=4'
+"$built" resume "$dir/stopped" "$dir/two.json" 100 "$dir/new" >/dev/full 2>"$dir/stderr"
+[ $? -eq 12 ] || differs "a full device isn't told by resume"
+holds "$dir/new" 'what it held'
+
 # a full device and a closed stream take no line
 "$built" render "$patch" "$script" 10 >/dev/full 2>"$dir/stderr"
 [ $? -eq 12 ] || differs "a full device isn't told by render"

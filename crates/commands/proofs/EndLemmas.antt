@@ -8,6 +8,7 @@ use Rattle.through_meaning.specs.Patches.{IsThroughPatch}
 use Rattle.through_meaning.proofs.Formed.{has_tree, are_read}
 use Rattle.through_meaning.proofs.Known.{the_tree}
 use Rattle.through_meaning.proofs.Shape.{parts_of}
+use Rattle.commands.specs.declared.status.FileRef.TheVariants as file
 use Rattle.commands.specs.declared.status.Status.{Status}
 use Rattle.commands.specs.declared.status.Status.TheVariants as status
 use Rattle.commands.specs.declared.stop.Stop.{Stop}
@@ -15,9 +16,9 @@ use Rattle.commands.specs.Compile.{IsFormModule, IsCompiled}
 use Rattle.commands.specs.Due.{IsDue, IsDueFor}
 use Rattle.commands.specs.Files.{KeepsUnwritten}
 use Rattle.commands.specs.Patch.{MeanPatch, NamePatch, PatchOf, NamedPatchOf}
-use Rattle.commands.specs.Statuses.{Reads, MayAnswer, HasCause, OnExplained, OnUnwritten}
+use Rattle.commands.specs.Statuses.{Reads, RunsModule, MayAnswer, HasCause, OnExplained, OnUnwritten}
 use Rattle.commands.specs.Steps.{Stopped, FileAbsent, ReadFailed, FileTooBig, PatchRefused, ModuleIsRefused, StateIsRefused, ScriptRefused, OutOfMemory, Unwritten, WriteFailed, WriteLacksMemory, Ends, EndsWords, ended}
-use Rattle.commands.specs.Words.{Command, Compile, Render, Play, command_of, file_written}
+use Rattle.commands.specs.Words.{Command, Compile, Render, Play, Resume, command_of, file_written}
 use Rattle.commands.proofs.StepLemmas.{told, rose_later}
 
 -- ---- nothing is written
@@ -29,10 +30,19 @@ others_kept held held' name e = subst (λ (h : Option Files). KeepsOthers held h
     same None = tt
     same (Some files) = λ other ne. refl
 
-kept : (command : Command) (before after : Seen) → after.holds ≡ before.holds → KeepsUnwritten (file_written (Some command)) before after
+pub kept : (command : Command) (before after : Seen) → after.holds ≡ before.holds → KeepsUnwritten (file_written (Some command)) before after
 kept (Compile manifest out) before after e = others_kept before.holds after.holds out e
 kept (Render manifest input turns state) before after e = e
 kept (Play wasm input steps) before after e = e
+kept (Resume state input steps None) before after e = e
+kept (Resume state input steps (Some name)) before after e = others_kept before.holds after.holds name e
+
+-- a command that reads a module's file runs the module
+runs_module : (command : Command) → Reads command file.Module → RunsModule command
+runs_module (Compile manifest out) reads = reads
+runs_module (Render manifest input turns state) reads = reads
+runs_module (Play wasm input steps) reads = reads
+runs_module (Resume state input steps new) reads = absurd reads
 
 -- a step that stops before anything is written ends the command
 pub stop_ends : (command : Command) (before after : Seen) (due : Files → Status → Type 0) (s : Status) → after.holds ≡ before.holds →
@@ -46,7 +56,7 @@ stop_ends command before after due s same goes (FileTooBig f n r past d) =
 stop_ends command before after due s same goes (PatchRefused r m d) =
     record { may = m; explained = told before.holds _ _ (λ files. goes files (status.Refused r)) d; caused = tt; done = λ e. cc; others = kept command before after same; unwritten = same }
 stop_ends command before after due s same goes (ModuleIsRefused r m d) =
-    record { may = m; explained = told before.holds _ _ (λ files. goes files (status.ModuleRefused r)) d; caused = tt; done = λ e. cc; others = kept command before after same; unwritten = same }
+    record { may = runs_module command m; explained = told before.holds _ _ (λ files. goes files (status.ModuleRefused r)) d; caused = tt; done = λ e. cc; others = kept command before after same; unwritten = same }
 stop_ends command before after due s same goes (StateIsRefused f m d) =
     record { may = m; explained = told before.holds _ _ (λ files. goes files (status.StateRefused f)) d; caused = tt; done = λ e. cc; others = kept command before after same; unwritten = same }
 stop_ends command before after due s same goes (ScriptRefused f m d) =

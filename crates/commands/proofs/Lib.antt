@@ -6,3 +6,4 @@ pub mod EndLemmas
 pub mod PlayLemmas
 pub mod RestoreLemmas
 pub mod RenderLemmas
+pub mod ResumeLemmas

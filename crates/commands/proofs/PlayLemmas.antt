@@ -7,7 +7,7 @@ use Rattle.cm_base.specs.declared.forms.FormFault.{FormFault}
 use Rattle.cm_base.specs.declared.host.HostEnd.{HostEnd}
 use Rattle.cm_base.specs.declared.play.Saved.{Saved}
 use Rattle.cm_base.specs.declared.play.Script.{Script}
-use Rattle.cm_base.specs.Players.{Ending, Ended, Out, Trapped}
+use Rattle.cm_base.specs.Players.{Ending, Ended, Out, Trapped, Outcome}
 use Rattle.cm_io.specs.Files.{Files}
 use Rattle.cm_io.specs.Seen.{Seen, OnlyRead}
 use Rattle.input_script.specs.Script.{script_in}
@@ -108,7 +108,7 @@ run_may wasm input steps run.PutFailed = refl
 run_may wasm input steps (run.ListenerFailed number) = inr tt
 run_may wasm input steps run.NoMemory = tt
 
-run_caused : (before after : Seen) (end : RunEnd) → HasCause before after (status_of_run end)
+pub run_caused : (before after : Seen) (end : RunEnd) → HasCause before after (status_of_run end)
 run_caused before after run.Ended = tt
 run_caused before after (run.StepsSpent at) = tt
 run_caused before after (run.Trapped at) = tt
@@ -116,11 +116,11 @@ run_caused before after run.PutFailed = tt
 run_caused before after (run.ListenerFailed number) = tt
 run_caused before after run.NoMemory = tt
 
-run_unwritten : (end : RunEnd) (P : Type 0) → P → OnUnwritten (status_of_run end) P
+pub run_unwritten : (end : RunEnd) (P : Type 0) → P → OnUnwritten (status_of_run end) P
 run_unwritten run.Ended P p = tt
 run_unwritten (run.StepsSpent at) P p = p
 run_unwritten (run.Trapped at) P p = p
-run_unwritten run.PutFailed P p = tt
+run_unwritten run.PutFailed P p = p
 run_unwritten (run.ListenerFailed number) P p = p
 run_unwritten run.NoMemory P p = p
 
@@ -138,13 +138,13 @@ cut_explained (heard.ListenerFailed number) P not = tt
 cut_explained (heard.ListenerLacksMemory number) P not = tt
 
 -- the end that is due explains the answer, and any other is a fault or want of memory
-told_explained : (m : Module) (section : CmajorSection) (script : Script) (steps : ℕ) (before after : Outside) (end : RunEnd) (P : Status → Type 0) →
-    P (status_of_run (end_of (run_of m section [] script steps).ending)) → RunTells (ends_of section) (run_of m section [] script steps) before after end → OnExplained (status_of_run end) (P (status_of_run end))
-told_explained m section script steps before after end P due (Whole is told) =
-    subst (λ (e : RunEnd). OnExplained (status_of_run e) (P (status_of_run e))) (sym is) (run_explained (run_of m section [] script steps).ending P due)
-told_explained m section script steps before after end P due (Cut first item others between answer parts told tells not is) =
+pub told_explained : (ends : List HostEnd) (run : Outcome) (before after : Outside) (end : RunEnd) (P : Status → Type 0) → P (status_of_run (end_of run.ending)) → RunTells ends run before after end →
+    OnExplained (status_of_run end) (P (status_of_run end))
+told_explained ends run before after end P due (Whole is told) =
+    subst (λ (e : RunEnd). OnExplained (status_of_run e) (P (status_of_run e))) (sym is) (run_explained run.ending P due)
+told_explained ends run before after end P due (Cut first item others between answer parts told tells not is) =
     subst (λ (e : RunEnd). OnExplained (status_of_run e) (P (status_of_run e))) (sym is) (cut_explained answer P not)
-told_explained m section script steps before after end P due (NotBegun is same) =
+told_explained ends run before after end P due (NotBegun is same) =
     subst (λ (e : RunEnd). OnExplained (status_of_run e) (P (status_of_run e))) (sym is) tt
 
 pub both_told : (held held' : Option Files) → IfSome held (λ old. IfSome held' (λ new. Unit {0}))
@@ -165,7 +165,7 @@ pub run_ends : (before after : Seen) (wasm input : List ℕ) (steps : ℕ) (m : 
 run_ends before after wasm input steps m section script out out' s same has_module has_script is =
     subst (λ (t : Status). Ends (Play wasm input steps) before after t) (sym is.answered) (record {
       may = run_may wasm input steps is.end;
-      explained = told_explained m section script steps out out' is.end (λ t. IfSome before.holds (λ files. IsPlayDue files wasm input steps t))
+      explained = told_explained (ends_of section) (run_of m section [] script steps) out out' is.end (λ t. IfSome before.holds (λ files. IsPlayDue files wasm input steps t))
           (told_both before.holds _ _ _ (λ files h g. inr (m, section, h, inr (script, g, refl))) has_module has_script) is.tells;
       caused = run_caused before after is.end;
       done = λ e. both_told before.holds after.holds;

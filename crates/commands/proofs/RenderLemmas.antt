@@ -156,7 +156,7 @@ lacks_memory before after manifest input turns state same = ends_so before after
 
 cut_ends : (before after : Seen) (manifest input : List ℕ) (turns : ℕ) (state : Option (List ℕ)) (answer : Told) → after.holds ≡ before.holds → is_heard answer ≡ false → Ends (Render manifest input turns state) before after (status_of_patch_run (end_at answer))
 cut_ends before after manifest input turns state heard.Heard same not = absurd (cc not)
-cut_ends before after manifest input turns state heard.PutFailed same not = ends_so before after manifest input turns state _ same refl tt tt tt
+cut_ends before after manifest input turns state heard.PutFailed same not = ends_so before after manifest input turns state _ same refl tt tt same
 cut_ends before after manifest input turns state heard.PutLacksMemory same not = lacks_memory before after manifest input turns state same
 cut_ends before after manifest input turns state heard.LineLacksMemory same not = lacks_memory before after manifest input turns state same
 cut_ends before after manifest input turns state (heard.ListenerFailed number) same not = ends_so before after manifest input turns state (status.ListenerFault number) same (inl tt) tt tt same

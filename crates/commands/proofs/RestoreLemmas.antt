@@ -18,7 +18,7 @@ least_by : (second : Bool) → 1048576 ≤ (if second then 67108864 else 1048576
 least_by true = omega arith
 least_by false = omega arith
 
-least_limit_of : (bytes : List ℕ) → 1048576 ≤ limit_of bytes
+pub least_limit_of : (bytes : List ℕ) → 1048576 ≤ limit_of bytes
 least_limit_of bytes = least_by (is_version_2 bytes)
 
 state_refused : (before after : Seen) (name bytes : List ℕ) (s : Status) → IfSome before.holds (λ files. HasFile files name most_state bytes) → RefusesState bytes s →

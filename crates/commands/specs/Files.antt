@@ -45,6 +45,14 @@ IsRenderFile state file.State = IsStateFile state file.State
 IsRenderFile state file.Input = Unit {0}
 IsRenderFile state file.Module = ⊥
 
+-- the files of `resume`: the state and the script
+abbrev pub IsResumeFile : FileRef → Type 0
+IsResumeFile file.Manifest = ⊥
+IsResumeFile (file.Source number) = ⊥
+IsResumeFile file.State = Unit {0}
+IsResumeFile file.Input = Unit {0}
+IsResumeFile file.Module = ⊥
+
 -- the file of this name has these bytes, no more than its limit
 pub record HasFile (files : Files) (name : List ℕ) (limit : ℕ) (bytes : List ℕ) : Type 0 where
   pub held : file_at files name ≡ Some bytes

@@ -5,6 +5,7 @@ pub mod Patch
 pub mod Playing
 pub mod Rendering
 pub mod Restoring
+pub mod Resuming
 pub mod Statuses
 pub mod Steps
 pub mod Told

@@ -1,5 +1,5 @@
 -- What each status needs: docs/COMMANDS.md, "Statuses".
-use Rattle.std.specs.Prelude.{ℕ, ◌≡◌, ◌<◌, ◌⊎◌}
+use Rattle.std.specs.Prelude.{ℕ, ◌≡◌, ◌<◌, ◌⊎◌, List, Option, Some, None}
 use Rattle.cm_base.specs.declared.failure.Fail.{Fail}
 use Rattle.cm_base.specs.declared.failure.Fail.TheVariants as fail
 use Rattle.cm_io.specs.Count.{Rose}
@@ -12,8 +12,8 @@ use Rattle.commands.specs.declared.status.Target.{Target}
 use Rattle.commands.specs.declared.status.Target.TheVariants as target
 use Rattle.commands.specs.declared.status.Status.{Status}
 use Rattle.commands.specs.declared.status.Status.TheVariants as status
-use Rattle.commands.specs.Files.{IsPatchFile, IsRenderFile, IsPlayFile, least_limit}
-use Rattle.commands.specs.Words.{Command, Compile, Render, Play}
+use Rattle.commands.specs.Files.{IsPatchFile, IsRenderFile, IsPlayFile, IsResumeFile, least_limit}
+use Rattle.commands.specs.Words.{Command, Compile, Render, Play, Resume}
 use Rattle.run_lines.specs.declared.ending.RunEnd.{RunEnd}
 use Rattle.run_lines.specs.declared.ending.RunEnd.TheVariants as run
 
@@ -66,27 +66,36 @@ abbrev pub Reads : Command → FileRef → Type 0
 Reads (Compile manifest out) f = IsPatchFile f
 Reads (Render manifest input turns state) f = IsRenderFile state f
 Reads (Play wasm input steps) f = IsPlayFile f
+Reads (Resume state input steps new) f = IsResumeFile f
+
+-- the output, and the file that is named, where one is
+abbrev pub WritesAlso : Option (List ℕ) → Target → Type 0
+WritesAlso None t = t ≡ target.Out
+WritesAlso (Some name) t = Unit {0}
 
 -- what a command writes
 abbrev pub Writes : Command → Target → Type 0
 Writes (Compile manifest out) t = t ≡ target.File
 Writes (Render manifest input turns state) t = t ≡ target.Out
 Writes (Play wasm input steps) t = t ≡ target.Out
+Writes (Resume state input steps new) t = WritesAlso new t
 
 -- the commands that run a patch
 abbrev pub RunsPatch : Command → Type 0
 RunsPatch (Compile manifest out) = ⊥
 RunsPatch (Render manifest input turns state) = Unit {0}
 RunsPatch (Play wasm input steps) = ⊥
+RunsPatch (Resume state input steps new) = ⊥
 
 -- the commands that run a module that they are given
 abbrev pub RunsModule : Command → Type 0
 RunsModule (Compile manifest out) = ⊥
 RunsModule (Render manifest input turns state) = ⊥
 RunsModule (Play wasm input steps) = Unit {0}
+RunsModule (Resume state input steps new) = Unit {0}
 
 -- A command answers for the files that it reads, also by refusing them, and for what it writes; one that runs a patch or a
--- module answers for the run and for the listeners.
+-- module answers for the run and for the listeners, and one that runs a module for the module too.
 abbrev pub MayAnswer : Command → Status → Type 0
 MayAnswer command status.Ok = Unit {0}
 MayAnswer command status.NoMemory = Unit {0}
@@ -96,7 +105,7 @@ MayAnswer command (status.TooBig f length) = Reads command f
 MayAnswer command (status.Refused r) = Reads command file.Manifest
 MayAnswer command (status.StateRefused fault) = Reads command file.State
 MayAnswer command (status.InputRefused fault) = Reads command file.Input
-MayAnswer command (status.ModuleRefused refused) = Reads command file.Module
+MayAnswer command (status.ModuleRefused refused) = RunsModule command
 MayAnswer command (status.TurnsSpent at) = RunsPatch command
 MayAnswer command (status.StepsSpent at) = RunsModule command
 MayAnswer command (status.Trapped at) = RunsModule command
@@ -124,8 +133,8 @@ OnExplained (status.ListenerFault number) P = Unit {0}
 OnExplained status.NoMemory P = Unit {0}
 OnExplained _ P = P
 
--- a fact where nothing was written or tried to be: not after `Ok`, nor after a failed write
+-- a fact where no file was written or tried to be: not after `Ok`, nor after a failed write
 abbrev pub OnUnwritten : Status → Type 0 → Type 0
 OnUnwritten status.Ok P = Unit {0}
-OnUnwritten (status.WriteFault t) P = Unit {0}
+OnUnwritten (status.WriteFault target.File) P = Unit {0}
 OnUnwritten _ P = P

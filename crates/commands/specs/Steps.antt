@@ -1,5 +1,5 @@
 -- How the steps of a command end, and how the command ends with them.
-use Rattle.std.specs.Prelude.{ℕ, ◌≡◌, ◌<◌, Option, Some, None, Result, Ok, Err}
+use Rattle.std.specs.Prelude.{ℕ, ◌≡◌, ◌<◌, List, Option, Some, None, Result, Ok, Err}
 use Rattle.cm_base.specs.declared.failure.Refused.{Refused}
 use Rattle.cm_base.specs.declared.forms.FormFault.{FormFault}
 use Rattle.cm_io.specs.Count.{Rose}
@@ -30,6 +30,12 @@ pub data Stopped (before after : Seen) (reads : FileRef → Type 0) (due : Files
   ScriptRefused : (fault : FormFault) → reads file.Input → IfTold before (λ files. due files (status.InputRefused fault)) → Stopped before after reads due (status.InputRefused fault)
   OutOfMemory : Stopped before after reads due status.NoMemory
 
+-- what stands with a status that ends the reading of a stopped run: the state file isn't read or is refused, or the module in
+-- it is refused
+pub data StateStopped (before after : Seen) (due : Files → Status → Type 0) : Status → Type 0 where
+  InState : (s : Status) → Stopped before after (λ f. f ≡ file.State) due s → StateStopped before after due s
+  InModule : (r : ModuleRefused) → IfTold before (λ files. due files (status.ModuleRefused r)) → StateStopped before after due (status.ModuleRefused r)
+
 -- what stands with a refusal by a file's bytes, or with want of memory
 pub data Refuses (due : Status → Type 0) : Status → Type 0 where
   Refusal : (r : Refused) → due (status.Refused r) → Refuses due (status.Refused r)
@@ -39,6 +45,11 @@ pub data Refuses (due : Status → Type 0) : Status → Type 0 where
 pub data Unwritten (before after : Seen) : Status → Type 0 where
   WriteFailed : Rose before.faults after.faults → Unwritten before after (status.WriteFault target.File)
   WriteLacksMemory : after.holds ≡ before.holds → Unwritten before after status.NoMemory
+
+-- the same of a file that is named to be written, where one is
+abbrev pub FailsToWrite : (new : Option (List ℕ)) → Seen → Seen → Status → Type 0
+FailsToWrite None before after s = ⊥
+FailsToWrite (Some name) before after s = Unwritten before after s
 
 -- the status of a command that did its work or was ended
 abbrev pub ended : {X : Type 0} → Result X Stop → Status

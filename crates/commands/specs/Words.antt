@@ -14,6 +14,9 @@ pub data Command : Type 0 where
   Render : (manifest input : List ℕ) (turns : ℕ) (state : Option (List ℕ)) → Command
   -- play a module over a script, with so many reductions for each part of its run
   Play : (wasm input : List ℕ) (steps : ℕ) → Command
+  -- go on with the stopped run of a state file over a script, with so many reductions for each part; the state that it comes
+  -- to is written, where a file is named for it
+  Resume : (state input : List ℕ) (steps : ℕ) (new : Option (List ℕ)) → Command
 
 -- a file's name isn't empty
 abbrev pub is_file_word : List ℕ → Bool
@@ -73,10 +76,20 @@ play_of (wasm ∷ input ∷ []) = None
 play_of (wasm ∷ input ∷ steps ∷ []) = command_running (Play wasm input) most_steps wasm input steps
 play_of (wasm ∷ input ∷ steps ∷ other ∷ others) = None
 
+-- `resume STATE INPUT STEPS [NEW]`
+abbrev pub resume_of : List (List ℕ) → Option Command
+resume_of [] = None
+resume_of (state ∷ []) = None
+resume_of (state ∷ input ∷ []) = None
+resume_of (state ∷ input ∷ steps ∷ words) =
+    option_and_then (λ new. command_running (λ number. Resume state input number new) most_steps state input steps) (last_file words)
+
 -- the command that the words are, compared byte for byte
 abbrev pub command_of : List (List ℕ) → Option Command
 command_of [] = None
-command_of (name ∷ words) = if bytes_eq name (codes "compile") then compile_of words else if bytes_eq name (codes "render") then render_of words else if bytes_eq name (codes "play") then play_of words else None
+command_of (name ∷ words) =
+    if bytes_eq name (codes "compile") then compile_of words else if bytes_eq name (codes "render") then render_of words else if bytes_eq name (codes "play") then play_of words
+    else if bytes_eq name (codes "resume") then resume_of words else None
 
 -- the name of a file that is borrowed
 abbrev pub name_of : Option (Bor (List ℕ)) → Option (List ℕ)
@@ -88,6 +101,7 @@ abbrev pub meaning : Found → Command
 meaning (found.Compile manifest out) = Compile manifest.now out.now
 meaning (found.Render manifest input turns state) = Render manifest.now input.now turns (name_of state)
 meaning (found.Play wasm input steps) = Play wasm.now input.now steps
+meaning (found.Resume state input steps new) = Resume state.now input.now steps (name_of new)
 
 -- the file that words write, where they write one
 abbrev pub file_written : Option Command → Option (List ℕ)
@@ -95,9 +109,11 @@ file_written None = None
 file_written (Some (Compile manifest out)) = Some out
 file_written (Some (Render manifest input turns state)) = None
 file_written (Some (Play wasm input steps)) = None
+file_written (Some (Resume state input steps new)) = new
 
 -- a command that runs a patch gives its parts no more turns than a word may say
 abbrev pub GivesTurns : Found → Type 0
 GivesTurns (found.Compile manifest out) = Unit {0}
 GivesTurns (found.Render manifest input turns state) = turns ≤ most_turns
 GivesTurns (found.Play wasm input steps) = Unit {0}
+GivesTurns (found.Resume state input steps new) = Unit {0}

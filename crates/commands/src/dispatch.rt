@@ -14,6 +14,7 @@ use crate::compile::compile;
 use crate::play::play_files;
 use crate::render::render_files;
 use crate::report::heard;
+use crate::resume::resume_files;
 use crate::status::Status;
 use crate::stop::Stop;
 use crate::words::{Command, read_words};
@@ -74,6 +75,17 @@ fn carry_out<F: Folder, O: Sink, L: Listener>(
             play_files(alloc, folder, wasm, input, steps, out, listeners),
             Work::Heard,
         ),
+        Some(
+            Command::Resume {
+                state,
+                input,
+                steps,
+                new,
+            },
+        ) => done(
+            resume_files(alloc, folder, state, input, steps, new, out, listeners),
+            Work::Heard,
+        ),
         None => Err(Stop {
             status: Status::Usage,
             about: None,
@@ -83,8 +95,8 @@ fn carry_out<F: Folder, O: Sink, L: Listener>(
 
 /// Carries out the words of a command line, those after the program's name. The files are those of `folder`,
 /// lines go to `out`, and a line on what went wrong goes to `err`. `compile M OUT` puts no line and tells the listeners
-/// nothing. `render M INPUT TURNS [STATE]` and `play WASM INPUT STEPS` put the lines of a run and have the listeners hear it; with
-/// `Ok` a line on each listener goes to `err`: docs/COMMANDS.md.
+/// nothing. `render M INPUT TURNS [STATE]`, `play WASM INPUT STEPS` and `resume STATE INPUT STEPS [NEW]` put the lines of a run and
+/// have the listeners hear it; with `Ok` a line on each listener goes to `err`: docs/COMMANDS.md.
 pub fn run<F: Folder, O: Sink, E: Sink, L: Listener>(
     alloc: Global,
     words: &[String],
@@ -109,7 +121,8 @@ pub fn run<F: Folder, O: Sink, E: Sink, L: Listener>(
     // The folder counted an absent file and a fault, and of a file that is too big more was read than it may have.
     ensures caused { HasCause (F.seen folder.old) (F.seen folder.new) result }
 
-    // With `Ok` the command's work is done: of `compile`, the file to write holds a valid module that keeps the patch.
+    // With `Ok` the command's work is done: of `compile`, the file to write holds a valid module that keeps the patch; of
+    // `resume`, the file to write holds the state at the end of the resumed run.
     ensures done { result ≡ Status.Ok → MatchOption (command_of (map string_bytes words.now)) ⊥ (λ command.
         IfBothTold (F.seen folder.old) (F.seen folder.new) (IsDone command)) }
 
@@ -117,10 +130,10 @@ pub fn run<F: Folder, O: Sink, E: Sink, L: Listener>(
     ensures others { KeepsUnwritten (file_written (command_of (map string_bytes words.now)))
         (F.seen folder.old) (F.seen folder.new) }
 
-    // With a status other than `Ok` that one is as before too, unless it couldn't be written.
+    // With a status other than `Ok` that one is as before too, unless a write of it failed.
     ensures unwritten { OnUnwritten result ((F.seen folder.new).holds ≡ (F.seen folder.old).holds) }
 
-    // Lines are put, and items heard, for exactly the run of the patch or of the module, up to an item that isn't put or
+    // Lines are put, and items heard, for exactly the run of the patch or of the module, resumed or whole, up to an item that isn't put or
     // heard, and the answer is that of its end; any other answer leaves output and listeners as they are.
     ensures told { TellsWords (command_of (map string_bytes words.now)) (F.seen folder.old).holds
         (record { out = mouth (O.written out.old) (O.faults out.old) (O.refusals out.old); ears = map (λ l. ear (L.heard l) (L.count l) (L.faults l) (L.refusals l)) listeners.old.items })

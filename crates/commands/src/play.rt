@@ -66,7 +66,7 @@ fn read_valid<F: Folder>(alloc: Global, folder: &mut F, name: &str) -> Result<Va
 }
 
 /// The valid module that bytes spell.
-fn valid_module(alloc: Global, bytes: &[u8]) -> Result<Valid, Status>
+pub fn valid_module(alloc: Global, bytes: &[u8]) -> Result<Valid, Status>
     ensures found { IfOk result (λ valid. SpellsValid valid.of valid.section bytes.now) }
     ensures refused { IfErr result (λ status. (status ≡ Status.NoMemory) ⊎ RefusesModule bytes.now status) }
 {

@@ -67,7 +67,7 @@ fn parameters_of(alloc: Global, bytes: &[u8], host: &HostEnds) -> Result<SavedLi
 }
 
 /// The state that bytes are, no more than their version may have.
-fn state_of(alloc: Global, bytes: &[u8]) -> Result<State, Status>
+pub fn state_of(alloc: Global, bytes: &[u8]) -> Result<State, Status>
     ensures found { IfOk result (SpellsState bytes.now) }
     ensures refused { IfErr result (λ status. (status ≡ Status.NoMemory) ⊎ RefusesState bytes.now status) }
 {

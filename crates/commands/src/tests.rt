@@ -5,6 +5,7 @@ use std::alloc::{AllocError, Global};
 use std::process::Abort;
 
 mod patches;
+mod stopped;
 
 const MANIFEST: &[u8] =
     b"{\"CmajorVersion\":1,\"ID\":\"x.p\",\"version\":\"1.0\",\"name\":\"P\",\"source\":\"p.cmajor\",\"isInstrument\":false}";

@@ -2,7 +2,7 @@
 
 ghost use Rattle.std.specs.Prelude.{◌≡◌, ◌≤◌, ◌∷◌, map, string_bytes, IfSome};
 ghost use Rattle.std.specs.Option.{option_map};
-ghost use Rattle.commands.specs.Words.{GivesTurns, Render, Play, command_of, command_running, compile_of, last_file, play_of, render_of, meaning, most_steps, most_turns, name_of, next_number as the_next, number_behind, number_within};
+ghost use Rattle.commands.specs.Words.{GivesTurns, Render, Play, Resume, command_of, command_running, compile_of, last_file, play_of, render_of, resume_of, meaning, most_steps, most_turns, name_of, next_number as the_next, number_behind, number_within};
 
 use cm_base::limits::{STEPS, TURNS};
 
@@ -36,6 +36,17 @@ pub enum Command<'a> {
         /// How many reductions each part of the run is given.
         steps: u64,
     },
+    /// Go on with a stopped run over an input script.
+    Resume {
+        /// The name of the state file.
+        state: &'a str,
+        /// The script's name.
+        input: &'a str,
+        /// How many reductions each part of the run is given.
+        steps: u64,
+        /// The name of the file to which the state that the run comes to is written.
+        new: Option<&'a str>,
+    },
 }
 
 /// The command that the words are.
@@ -52,6 +63,9 @@ pub fn read_words(words: &[String]) -> Option<Command<'_>>
     }
     if name.as_str() == "play" {
         return read_play(words);
+    }
+    if name.as_str() == "resume" {
+        return read_resume(words);
     }
     None
 }
@@ -161,6 +175,49 @@ fn play_command<'a>(wasm: &'a str, input: &'a str, steps: &[u8]) -> Option<Comma
     }
     let steps = read_number(steps, STEPS)?;
     Some(Command::Play { wasm, input, steps })
+}
+
+/// The command of these words after `resume`: two names that aren't empty, a number, and maybe a third name.
+fn read_resume(words: &[String]) -> Option<Command<'_>>
+    ensures meant { option_map meaning result ≡ resume_of (map string_bytes words.now) }
+    ensures turns { IfSome result GivesTurns }
+{
+    let (state, words) = words.split_first()?;
+    let (input, words) = words.split_first()?;
+    read_resumed(state.as_str(), input.as_str(), words)
+}
+
+/// The command that goes on with the run of this state over this script, of the words that follow the two.
+fn read_resumed<'a>(state: &'a str, input: &'a str, words: &'a [String]) -> Option<Command<'a>>
+    ensures meant { option_map meaning result ≡ resume_of (state.now ∷ input.now ∷ map string_bytes words.now) }
+    ensures turns { IfSome result GivesTurns }
+{
+    let (steps, words) = words.split_first()?;
+    let new = read_last(words)?;
+    resume_command(state, input, steps.as_bytes(), new)
+}
+
+/// The command that goes on with the run of this state over this script, where the names aren't empty and the last word is a
+/// number of reductions.
+fn resume_command<'a>(
+    state: &'a str,
+    input: &'a str,
+    steps: &[u8],
+    new: Option<&'a str>,
+) -> Option<Command<'a>>
+    ensures meant { option_map meaning result ≡ command_running (λ number. Resume state.now input.now number (name_of new.entry)) most_steps state.now input.now steps.now }
+    ensures turns { IfSome result GivesTurns }
+{
+    if state.is_empty() || input.is_empty() {
+        return None;
+    }
+    let steps = read_number(steps, STEPS)?;
+    Some(Command::Resume {
+        state,
+        input,
+        steps,
+        new,
+    })
 }
 
 /// The number that a word gives, up to this limit.
